@@ -1,0 +1,34 @@
+-- Bytes stored one after the other, as straight-line code stores them, are one splice.
+-- Assumes nothing.
+use mathlib.Core.Path.{_≡_, refl, ap, _∙_, sym}
+use mathlib.Core.List.{List, [], _∷_, _++_, append-assoc}
+use Prim.Native.Nat.{ℕ, zero, suc, _+_, _≤_}
+use native.Mathlib.Nat.{add-suc}
+use native.Mathlib.Numerals.{add-one}
+use lib.ListN.{length, set, take, drop}
+use lib.Seq.{sets, sets-eq}
+use Rattle.wire.specs.Number.{splice}
+
+-- stored from the k-th behind a place on
+abbrev behind : List ℕ → ℕ → ℕ → List ℕ → List ℕ
+behind s at k [] = s
+behind s at k (b ∷ bs) = behind (set s (at + k) b) at (suc k) bs
+
+-- stored from a place on
+abbrev pub stored : List ℕ → ℕ → List ℕ → List ℕ
+stored s at [] = s
+stored s at (b ∷ bs) = behind (set s at b) at 1 bs
+
+behind-sets : (s : List ℕ) (at k : ℕ) (bs : List ℕ) → behind s at k bs ≡ sets s (at + k) bs
+behind-sets s at k [] = refl
+behind-sets s at k (b ∷ bs) =
+    behind-sets (set s (at + k) b) at (suc k) bs ∙ ap (λ (n : ℕ). sets (set s (at + k) b) n bs) (add-suc at k)
+
+stored-sets : (s : List ℕ) (at : ℕ) (bs : List ℕ) → stored s at bs ≡ sets s at bs
+stored-sets s at [] = refl
+stored-sets s at (b ∷ bs) =
+    behind-sets (set s at b) at 1 bs ∙ ap (λ (n : ℕ). sets (set s at b) n bs) (add-one at)
+
+pub stored-splice : (s : List ℕ) (at : ℕ) (bs : List ℕ) → at + length bs ≤ length s → stored s at bs ≡ splice s at bs
+unfolding splice
+stored-splice s at bs h = stored-sets s at bs ∙ sets-eq bs s at h ∙ append-assoc (take at s) bs (drop (at + length bs) s)

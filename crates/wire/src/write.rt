@@ -1,0 +1,44 @@
+// Parts: a number put at a place, all other bytes staying.
+ghost use mathlib.Core.Path.{_≡_};
+ghost use Prim.Native.Nat.{_+_, _≤_};
+ghost use lib.ListN.{length};
+ghost use Rattle.wire.specs.Number.{be, splice};
+
+pub fn put_u8(buf: &mut [u8], at: usize, n: u8)
+    requires { ⌜ at + 1 ≤ length (now buf) ⌝ }
+    ensures { λ _. ⌜ now (buf .exit) ≡ splice (now (buf .entry)) at (be 1 n) ⌝ }
+{
+    buf[at] = n;
+}
+
+pub fn put_u16(buf: &mut [u8], at: usize, n: u16)
+    requires { ⌜ at + 2 ≤ length (now buf) ⌝ }
+    ensures { λ _. ⌜ now (buf .exit) ≡ splice (now (buf .entry)) at (be 2 n) ⌝ }
+{
+    buf[at] = (n / 256 % 256) as u8;
+    buf[at + 1] = (n % 256) as u8;
+}
+
+pub fn put_u32(buf: &mut [u8], at: usize, n: u32)
+    requires { ⌜ at + 4 ≤ length (now buf) ⌝ }
+    ensures { λ _. ⌜ now (buf .exit) ≡ splice (now (buf .entry)) at (be 4 n) ⌝ }
+{
+    buf[at] = (n / 16777216 % 256) as u8;
+    buf[at + 1] = (n / 65536 % 256) as u8;
+    buf[at + 2] = (n / 256 % 256) as u8;
+    buf[at + 3] = (n % 256) as u8;
+}
+
+pub fn put_u64(buf: &mut [u8], at: usize, n: u64)
+    requires { ⌜ at + 8 ≤ length (now buf) ⌝ }
+    ensures { λ _. ⌜ now (buf .exit) ≡ splice (now (buf .entry)) at (be 8 n) ⌝ }
+{
+    buf[at] = (n / 72057594037927936 % 256) as u8;
+    buf[at + 1] = (n / 281474976710656 % 256) as u8;
+    buf[at + 2] = (n / 1099511627776 % 256) as u8;
+    buf[at + 3] = (n / 4294967296 % 256) as u8;
+    buf[at + 4] = (n / 16777216 % 256) as u8;
+    buf[at + 5] = (n / 65536 % 256) as u8;
+    buf[at + 6] = (n / 256 % 256) as u8;
+    buf[at + 7] = (n % 256) as u8;
+}
