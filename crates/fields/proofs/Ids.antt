@@ -1,0 +1,162 @@
+-- Laws of an id's digits, rule, value and answer.
+use mathlib.Core.Path.{_≡_, refl, sym, ap, ap₂, _∙_}
+use mathlib.Core.Logic.{_≢_}
+use mathlib.Core.Bool.{Bool, true, false, cond, _||_}
+use mathlib.Core.List.{List}
+use Prim.Native.Nat.{ℕ, zero, suc, _+_, _-_, _*_, _^_, _≤_, _<_}
+use native.Mathlib.Nat.{le-of-suc-le, le-refl, mul-comm, pow-suc, pow-le-pow-right, lt-of-lt-of-le, lt-trans}
+use native.Mathlib.Omega.{arith}
+use lib.Arith.{digits-lt}
+use lib.Dec.{ltb, lit<}
+use lib.ListN.{getD, take}
+use lib.Seq.{getD-take}
+use borrow.Author.Tests.{ltb-true, lt-ltb, le-ltb}
+use Rattle.fields.specs.declared.id.IdValue.{IdValue}
+use Rattle.fields.specs.declared.id.IdValue.the-variants.{Value, Refused}
+use Rattle.fields.specs.Tests.{firstAll}
+use Rattle.fields.specs.Id.{isNumeral, isCapital, isDigit, digitOf, digitTable, goodId, valueOf, noValue, numberOf, idAnswer, Begun}
+use Rattle.fields.proofs.Table.{entry}
+use Rattle.fields.proofs.Tests.{in-range, all-more, all-before, all-last, all-fail, all-take}
+
+-- ---- digits
+
+digit-cases : (c : ℕ) (n a : Bool) → isNumeral c ≡ n → isCapital c ≡ a
+    → (n || a ≡ ltb (cond n (c - 0x30) (cond a (c - 0x41 + 10) 36)) 36) × (cond n (c - 0x30) (cond a (c - 0x41 + 10) 36) ≤ 36)
+digit-cases c true a p q =
+    let h = in-range _ _ c p in
+    (sym (lt-ltb (c - 0x30) 36 (omega arith)), omega arith)
+digit-cases c false true p q =
+    let h = in-range _ _ c q in
+    (sym (lt-ltb (c - 0x41 + 10) 36 (omega arith)), omega arith)
+digit-cases c false false p q = (refl, le-refl 36)
+
+-- a character is a digit exactly where its digit is below 36
+pub digit-below : (c : ℕ) → isDigit c ≡ ltb (digitOf c) 36
+unfolding isDigit digitOf
+digit-below c = digit-cases c (isNumeral c) (isCapital c) refl refl .0
+
+pub digit-most : (c : ℕ) → digitOf c ≤ 36
+unfolding digitOf
+digit-most c = digit-cases c (isNumeral c) (isCapital c) refl refl .1
+
+pub is-digit : (c : ℕ) → digitOf c ≢ 36 → isDigit c ≡ true
+is-digit c h = digit-below c ∙ lt-ltb (digitOf c) 36 (omega (arith, digit-most c))
+
+pub no-digit : (c : ℕ) → digitOf c ≡ 36 → isDigit c ≡ false
+no-digit c h = digit-below c ∙ le-ltb (digitOf c) 36 (omega arith)
+
+pub digit-entry : (digits : List ℕ) (c : ℕ) → digits ≡ digitTable → c < 256 → getD digits c 0 ≡ digitOf c
+unfolding digitTable
+digit-entry digits c table h = ap (λ (l : List ℕ). getD l c 0) table ∙ entry digitOf 256 c h
+
+-- ---- the value
+
+pub value-below : (id : List ℕ) (k : ℕ) → firstAll isDigit k id ≡ true → valueOf k id < 36 ^ k
+unfolding valueOf
+value-below id zero good = lit< tt
+value-below id (suc k) good =
+    let small : digitOf (getD id k 0) < 36 = ltb-true (digitOf (getD id k 0)) 36 (sym (digit-below (getD id k 0)) ∙ all-last isDigit id k good) in
+    rw (mul-comm 36 (valueOf k id), pow-suc) (digits-lt (value-below id k (all-before isDigit id k good)) small)
+
+-- no character past the first k counts
+pub value-take : (id : List ℕ) (k n : ℕ) → k ≤ n → valueOf k (take n id) ≡ valueOf k id
+unfolding valueOf
+value-take id zero n h = refl
+value-take id (suc k) n h =
+    ap₂ (λ (v c : ℕ). 36 * v + digitOf c) (value-take id k n (le-of-suc-le h)) (getD-take n id k 0 h)
+
+-- ---- the answer
+
+pub answer-good : (id : List ℕ) → goodId id ≡ true → idAnswer id ≡ Value (valueOf 12 id)
+unfolding idAnswer
+answer-good id good = ap (λ (b : Bool). cond b (Value (valueOf 12 id)) (Refused 12)) good
+
+pub answer-bad : (id : List ℕ) → goodId id ≡ false → idAnswer id ≡ Refused 12
+unfolding idAnswer
+answer-bad id bad = ap (λ (b : Bool). cond b (Value (valueOf 12 id)) (Refused 12)) bad
+
+-- the last two characters do not count: ids with the same first twelve have the same answer
+answer-take : (id : List ℕ) → idAnswer (take 12 id) ≡ idAnswer id
+unfolding idAnswer goodId
+answer-take id =
+    ap₂ (λ (b : Bool) (v : ℕ). cond b (Value v) (Refused 12)) (all-take isDigit id 12 12 (le-refl 12)) (value-take id 12 12 (le-refl 12))
+
+pub first-twelve : (a b : List ℕ) → take 12 a ≡ take 12 b → idAnswer a ≡ idAnswer b
+first-twelve a b same = sym (answer-take a) ∙ ap idAnswer same ∙ answer-take b
+
+number-good : (id : List ℕ) → goodId id ≡ true → valueOf 12 id ≡ numberOf id
+unfolding numberOf
+number-good id good = sym (ap (λ (b : Bool). cond b (valueOf 12 id) noValue) good)
+
+number-bad : (id : List ℕ) → goodId id ≡ false → noValue ≡ numberOf id
+unfolding numberOf
+number-bad id bad = sym (ap (λ (b : Bool). cond b (valueOf 12 id) noValue) bad)
+
+number-cases : (id : List ℕ) (n : ℕ) (b : Bool) → goodId id ≡ b → n ≡ cond b (valueOf 12 id) noValue
+    → (n ≡ noValue → Refused 12 ≡ cond b (Value (valueOf 12 id)) (Refused 12))
+    × (n ≢ noValue → Value n ≡ cond b (Value (valueOf 12 id)) (Refused 12))
+unfolding goodId
+number-cases id n true good is = ((λ none. absurd (omega (arith, value-below id 12 good))), λ some. ap Value is)
+number-cases id n false bad is = ((λ none. refl), λ some. absurd (some is))
+
+pub answer-none : (id : List ℕ) {n : ℕ} → n ≡ numberOf id → n ≡ noValue → Refused 12 ≡ idAnswer id
+unfolding numberOf idAnswer
+answer-none id {n} is none = number-cases id n (goodId id) refl is .0 none
+
+pub answer-some : (id : List ℕ) {n : ℕ} → n ≡ numberOf id → n ≢ noValue → Value n ≡ idAnswer id
+unfolding numberOf idAnswer
+answer-some id {n} is some = number-cases id n (goodId id) refl is .1 some
+
+-- whether an answer is a value
+abbrev pub accepted : IdValue → Bool
+accepted (Value v) = true
+accepted (Refused n) = false
+
+accepted-cond : (b : Bool) (v n : ℕ) → accepted (cond b (Value v) (Refused n)) ≡ b
+accepted-cond true v n = refl
+accepted-cond false v n = refl
+
+-- the answer is a value exactly where the id is good
+pub accepted-good : (id : List ℕ) {answer case : IdValue} → answer ≡ idAnswer id → answer ≡ case → accepted case ≡ goodId id
+unfolding idAnswer
+accepted-good id is found = ap accepted (sym found ∙ is) ∙ accepted-cond (goodId id) (valueOf 12 id) 12
+
+-- ---- reading on, one character at a time
+
+module _ {digits id : List ℕ} {left sofar : ℕ} (begun : Begun digits id left sofar) where
+  pub begun-done : left ≡ 0 → sofar ≡ numberOf id
+  unfolding goodId
+  begun-done done =
+      let all : 12 - left ≡ 12 = omega arith in
+      begun .value ∙ ap (λ (k : ℕ). valueOf k id) all ∙ number-good id (rw all at (begun .good))
+
+  module _ (more : left ≢ 0) {d : ℕ} (read : d ≡ digitOf (getD id (12 - left) 0)) where
+    pub begun-bad : d ≡ 36 → noValue ≡ numberOf id
+    unfolding goodId
+    begun-bad none =
+        let inside : 12 - left < 12 = omega arith in
+        number-bad id (all-fail isDigit id (12 - left) 12 inside (no-digit (getD id (12 - left) 0) (sym read ∙ none)))
+
+    one-more : 12 - (left - 1) ≡ suc (12 - left)
+    one-more = omega arith
+
+    value-more : sofar * 36 + d ≡ valueOf (12 - (left - 1)) id
+    unfolding valueOf
+    value-more = rw (one-more, ← begun .value, mul-comm sofar 36, read)
+
+    module _ (digit : d ≢ 36) where
+      good-more : firstAll isDigit (12 - (left - 1)) id ≡ true
+      good-more =
+          rw one-more (all-more isDigit id (12 - left) (begun .good) (is-digit (getD id (12 - left) 0) (λ none. digit (read ∙ none))))
+
+      pub begun-more : Begun digits id (left - 1) (sofar * 36 + d)
+      begun-more = record { table = begun .table; few = omega arith; good = good-more; value = value-more }
+
+      pub begun-fits : sofar * 36 + d < 2 ^ 64
+      begun-fits =
+          let most : 12 - (left - 1) ≤ 12 = omega arith in
+          rw
+          value-more
+          (lt-trans
+          (lt-of-lt-of-le (value-below id (12 - (left - 1)) good-more) (pow-le-pow-right (lit< tt) most))
+          (lit< tt))

@@ -1,0 +1,4 @@
+-- Laws that the proofs of several functions, and of the crates above, cite.
+pub mod Table
+pub mod Tests
+pub mod Ids

@@ -1,0 +1,27 @@
+// An order id's value, and its rule.
+use crate::digits;
+use crate::parts;
+ghost use mathlib.Core.Path.{_≡_};
+ghost use Rattle.fields.specs.Id.{goodId, idAnswer};
+
+// The value, or 12 where the id breaks its rule.
+pub enum IdValue {
+    Value(u64),
+    Refused(u8),
+}
+
+pub fn value(id: [u8; 14]) -> IdValue
+    ensures { λ r. ⌜ r ≡ idAnswer id ⌝ }
+{
+    let digits = digits::table();
+    parts::value_with(&digits, id)
+}
+
+pub fn good_id(id: [u8; 14]) -> bool
+    ensures { λ r. ⌜ r ≡ goodId id ⌝ }
+{
+    match value(id) {
+        IdValue::Value(_) => true,
+        IdValue::Refused(_) => false,
+    }
+}

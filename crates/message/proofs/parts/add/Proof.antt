@@ -1,0 +1,26 @@
+-- The fields of an Order Add are the values of its row.
+-- Assumes nothing.
+use Rattle.message.specs.Layouts.{layoutOf}
+use Rattle.message.specs.Row.{fieldsOf, messageOf}
+use borrow.Author.Needs.{needs}
+use Rattle.message.proofs.parts.add.Statement.{statement}
+use Rattle.message.proofs.parts.add.Tie as tie
+
+returns : tie.Need-returns
+unfolding fieldsOf messageOf layoutOf
+returns c = cc
+
+pub add-spec : {M : Type 1} → statement M
+add-spec =
+    tie.close
+    (tie.spec
+    (λ c κs. search needs)
+    (λ c κs. search needs)
+    (λ c κs. search needs)
+    (λ c κs. search needs)
+    (λ c κs. search needs)
+    (λ c κs. search needs)
+    (λ c κs. search needs)
+    (λ c κs. search needs)
+    (λ c κs. search needs)
+    returns)

@@ -1,0 +1,23 @@
+-- The fields of an Execution are the values of its row.
+-- Assumes nothing.
+use Rattle.message.specs.Layouts.{layoutOf}
+use Rattle.message.specs.Row.{fieldsOf, messageOf}
+use borrow.Author.Needs.{needs}
+use Rattle.message.proofs.parts.execution.Statement.{statement}
+use Rattle.message.proofs.parts.execution.Tie as tie
+
+returns : tie.Need-returns
+unfolding fieldsOf messageOf layoutOf
+returns c = cc
+
+pub execution-spec : {M : Type 1} → statement M
+execution-spec =
+    tie.close
+    (tie.spec
+    (λ c κs. search needs)
+    (λ c κs. search needs)
+    (λ c κs. search needs)
+    (λ c κs. search needs)
+    (λ c κs. search needs)
+    (λ c κs. search needs)
+    returns)

@@ -1,0 +1,27 @@
+-- The fields of a Security are the values of its row.
+-- Assumes nothing.
+use Rattle.message.specs.Layouts.{layoutOf}
+use Rattle.message.specs.Row.{fieldsOf, messageOf}
+use borrow.Author.Needs.{needs}
+use Rattle.message.proofs.parts.security.Statement.{statement}
+use Rattle.message.proofs.parts.security.Tie as tie
+
+returns : tie.Need-returns
+unfolding fieldsOf messageOf layoutOf
+returns c = cc
+
+pub security-spec : {M : Type 1} → statement M
+security-spec =
+    tie.close
+    (tie.spec
+    (λ c κs. search needs)
+    (λ c κs. search needs)
+    (λ c κs. search needs)
+    (λ c κs. search needs)
+    (λ c κs. search needs)
+    (λ c κs. search needs)
+    (λ c κs. search needs)
+    (λ c κs. search needs)
+    (λ c κs. search needs)
+    (λ c κs. search needs)
+    returns)

@@ -1,0 +1,22 @@
+-- The fields of an End of Spin are the values of its row.
+-- Assumes nothing.
+use Rattle.message.specs.Layouts.{layoutOf}
+use Rattle.message.specs.Row.{fieldsOf, messageOf}
+use borrow.Author.Needs.{needs}
+use Rattle.message.proofs.parts.spin_end.Statement.{statement}
+use Rattle.message.proofs.parts.spin_end.Tie as tie
+
+returns : tie.Need-returns
+unfolding fieldsOf messageOf layoutOf
+returns c = cc
+
+pub spin-end-spec : {M : Type 1} → statement M
+spin-end-spec =
+    tie.close
+    (tie.spec
+    (λ c κs. search needs)
+    (λ c κs. search needs)
+    (λ c κs. search needs)
+    (λ c κs. search needs)
+    (λ c κs. search needs)
+    returns)

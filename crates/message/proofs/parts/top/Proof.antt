@@ -1,0 +1,25 @@
+-- The fields of a Top of Book are the values of its row.
+-- Assumes nothing.
+use Rattle.message.specs.Layouts.{layoutOf}
+use Rattle.message.specs.Row.{fieldsOf, messageOf}
+use borrow.Author.Needs.{needs}
+use Rattle.message.proofs.parts.top.Statement.{statement}
+use Rattle.message.proofs.parts.top.Tie as tie
+
+returns : tie.Need-returns
+unfolding fieldsOf messageOf layoutOf
+returns c = cc
+
+pub top-spec : {M : Type 1} → statement M
+top-spec =
+    tie.close
+    (tie.spec
+    (λ c κs. search needs)
+    (λ c κs. search needs)
+    (λ c κs. search needs)
+    (λ c κs. search needs)
+    (λ c κs. search needs)
+    (λ c κs. search needs)
+    (λ c κs. search needs)
+    (λ c κs. search needs)
+    returns)

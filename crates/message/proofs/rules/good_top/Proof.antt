@@ -1,0 +1,21 @@
+-- `message::good_top` answers the conjunction of its rules.
+-- Assumes nothing.
+use borrow.Author.Needs.{needs}
+use Rattle.message.proofs.rules.good_top.Statement.{statement}
+use Rattle.message.proofs.rules.good_top.Tie as tie
+
+returns : tie.Need-returns
+returns c = cc
+
+pub good-top-spec : {M : Type 1} → statement M
+good-top-spec =
+    tie.close
+    (tie.spec
+    (λ c κs. search needs)
+    (λ c κs. search needs)
+    (λ c κs. search needs)
+    (λ c κs. search needs)
+    (λ c κs. search needs)
+    (λ c κs. search needs)
+    (λ c κs. search needs)
+    returns)
