@@ -1,0 +1,2 @@
+-- Laws of `packet`'s definitions, which the proofs of this crate and of those above cite.
+pub mod Headers

@@ -1,0 +1,2 @@
+-- What `packet` promises: the header.
+pub mod Header
