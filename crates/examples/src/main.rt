@@ -1,0 +1,14 @@
+// The published example, document 01's worked examples, and a table of cases, one line each:
+// what is lent, and what the library answers.
+mod headers;
+mod ids;
+mod messages;
+mod show;
+mod sweeps;
+
+fn main() {
+    ids::run();
+    headers::run();
+    messages::run();
+    sweeps::run();
+}
