@@ -8,7 +8,7 @@ mod answer;
 mod kinds;
 pub mod parts;
 mod rules;
-mod table;
+pub mod table;
 
 pub use answer::Reading;
 pub use answer::Verdict;

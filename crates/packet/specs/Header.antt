@@ -9,6 +9,7 @@ use Rattle.wire.specs.Choice.{firstOf}
 use Rattle.wire.specs.Layout.{Field, number, Value, decode, numberIn}
 use Rattle.packet.specs.declared.header.Header.{Header}
 use Rattle.packet.specs.declared.header.HeaderAnswer.{HeaderAnswer}
+use Rattle.packet.specs.declared.header.Judged.{Judged}
 use Rattle.packet.specs.declared.header.HeaderAnswer.the-variants.{Fields, Refused}
 
 -- PacketSize, SeqNum, PacketFlag, Messages, PacketMilli
@@ -37,6 +38,10 @@ Test = Bool × (ℕ × ℕ)
 -- the first test that applies decides: its number and offset, or 0 where none does
 abbrev pub decided : List Test → ℕ × ℕ
 decided tests = firstOf tests (0, 0)
+
+-- the same as an answer
+abbrev pub judged : ℕ × ℕ → Judged
+judged row = record { test = row .0; offset = row .1 }
 
 -- 4 a reserved bit; 5 a heartbeat of another size, or with Messages; 6 no heartbeat and no Messages
 unfoldable pub flagTests : ℕ → ℕ → ℕ → List Test

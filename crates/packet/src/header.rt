@@ -2,7 +2,7 @@
 ghost use mathlib.Core.Path.{_≡_};
 ghost use Prim.Native.Nat.{_≤_};
 ghost use lib.ListN.{length};
-ghost use Rattle.packet.specs.Header.{decided, flagTests, headerIn, headerOf};
+ghost use Rattle.packet.specs.Header.{decided, flagTests, headerIn, headerOf, headerTests, judged};
 
 pub struct Header {
     pub size: u16,
@@ -17,8 +17,21 @@ pub enum HeaderAnswer {
     Refused(u8),
 }
 
+// Which test decides, 0 where none applies, and the byte offset that it rests on.
+pub struct Judged {
+    pub test: u8,
+    pub offset: usize,
+}
+
+// A part.
+pub fn by(test: u8, offset: usize) -> Judged
+    ensures { λ r. ⌜ r ≡ judged (test, offset) ⌝ }
+{
+    Judged { test, offset }
+}
+
 // A part: the fields where 12 bytes are there.
-fn fields(s: &[u8]) -> Header
+pub fn fields(s: &[u8]) -> Header
     requires { ⌜ 12 ≤ length (now s) ⌝ }
     ensures { λ r. ⌜ r ≡ headerIn (now (s .entry)) ⌝ }
 {
@@ -36,46 +49,53 @@ fn fields(s: &[u8]) -> Header
     }
 }
 
-// A part: the first of 4, 5 and 6 that applies to the fields, or 0.
-fn flagged(size: u16, flag: u8, messages: u8) -> u8
-    ensures { λ r. ⌜ r ≡ decided (flagTests size flag messages) .0 ⌝ }
+// A part: the first of 4, 5 and 6 that applies to the fields.
+pub fn flagged(size: u16, flag: u8, messages: u8) -> Judged
+    ensures { λ r. ⌜ r ≡ judged (decided (flagTests size flag messages)) ⌝ }
 {
     if flag / 2 != 0 {
-        return 4;
+        return by(4, 6);
     }
     if flag % 2 == 1 {
         if size != 12 {
-            return 5;
+            return by(5, 0);
         }
         if messages != 0 {
-            return 5;
+            return by(5, 7);
         }
-        return 0;
+        return by(0, 0);
     }
     if messages == 0 {
-        return 6;
+        return by(6, 7);
     }
-    0
+    by(0, 0)
+}
+
+// A part: the first of 1 to 6 that applies.
+pub fn tested(s: &[u8]) -> Judged
+    ensures { λ r. ⌜ r ≡ judged (decided (headerTests (now (s .entry)))) ⌝ }
+{
+    let n = s.len();
+    if n < 12 {
+        return by(1, 0);
+    }
+    if 1472 < n {
+        return by(2, 0);
+    }
+    let header = fields(s);
+    if header.size as usize != n {
+        return by(3, 0);
+    }
+    flagged(header.size, header.flag, header.messages)
 }
 
 // The call: every byte string has its answer. The lent bytes are the whole packet.
 pub fn read_header(s: &[u8]) -> HeaderAnswer
     ensures { λ r. ⌜ r ≡ headerOf (now (s .entry)) ⌝ }
 {
-    let n = s.len();
-    if n < 12 {
-        return HeaderAnswer::Refused(1);
+    let answer = tested(s);
+    if answer.test != 0 {
+        return HeaderAnswer::Refused(answer.test);
     }
-    if 1472 < n {
-        return HeaderAnswer::Refused(2);
-    }
-    let header = fields(s);
-    if header.size as usize != n {
-        return HeaderAnswer::Refused(3);
-    }
-    let number = flagged(header.size, header.flag, header.messages);
-    if number != 0 {
-        return HeaderAnswer::Refused(number);
-    }
-    HeaderAnswer::Fields(header)
+    HeaderAnswer::Fields(fields(s))
 }

@@ -1,10 +1,14 @@
-// A packet of the overnight channels: its header.
+// A packet of the overnight channels, with no session: its header, the walk over its messages, and
+// the tests 1 to 8.
 //
-// `read_header` answers for every byte string, of any length, as document 01 says: the fields, or
-// the first of 1 to 6 that applies (specs/Header.antt). Each test keeps the byte offset that it
-// rests on.
-mod header;
+// `read_header` and `judge` answer for every byte string, of any length, as document 01 says. The
+// first test that applies decides, and each keeps the byte offset that it rests on
+// (specs/Header.antt, specs/Judging.antt). The walk steps by MessageSize (specs/Walk.antt).
+pub mod header;
+pub mod judge;
+pub mod walk;
 
 pub use header::Header;
 pub use header::HeaderAnswer;
+pub use header::Judged;
 pub use header::read_header;

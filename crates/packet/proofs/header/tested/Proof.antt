@@ -1,0 +1,34 @@
+-- `packet::tested` meets its contract: each way out is the first test that applies.
+-- Assumes nothing.
+use mathlib.Core.Path.{_∙_}
+use Rattle.packet.proofs.Headers.{few, many, another, flags}
+use borrow.Author.Needs.{needs}
+use Rattle.packet.proofs.header.tested.Statement.{statement}
+use Rattle.packet.proofs.header.tested.Tie as tie
+
+returns : tie.Need-returns
+returns c = c .by .ensures ∙ few _ (c .before .if1 .taken)
+
+returns-2 : tie.Need-returns-2
+returns-2 c = c .by2 .ensures ∙ many _ (c .before .before .if1 .left) (c .before .if2 .taken)
+
+returns-3 : tie.Need-returns-3
+returns-3 c = c .by3 .ensures ∙ another _ (c .before .before .before .before .before .if1 .left) (c .before .before .before .before .if2 .left) (c .before .before .before .fields .ensures) (c .before .if3 .taken)
+
+returns-4 : tie.Need-returns-4
+returns-4 c = c .flagged .ensures ∙ flags _ (c .before .before .before .before .before .if1 .left) (c .before .before .before .before .if2 .left) (c .before .before .before .fields .ensures) (c .before .if3 .left)
+
+pub tested-spec : {M : Type 1} → statement M
+tested-spec =
+    tie.close
+    (tie.spec
+    (λ c κs. search needs)
+    returns
+    (λ c κs. search needs)
+    returns-2
+    (λ c κs. search needs)
+    (λ c. search needs)
+    (λ c κs. search needs)
+    returns-3
+    (λ c κs. search needs)
+    returns-4)
