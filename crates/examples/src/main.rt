@@ -5,10 +5,12 @@ mod ids;
 mod messages;
 mod show;
 mod sweeps;
+mod writes;
 
 fn main() {
     ids::run();
     headers::run();
     messages::run();
     sweeps::run();
+    writes::run();
 }

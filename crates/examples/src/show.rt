@@ -29,6 +29,19 @@ pub fn quoted(text: &[u8]) {
     put(b"\"");
 }
 
+// Bytes as two hex digits each.
+pub fn hex(bytes: &[u8]) {
+    let mut k = 0;
+    while k < bytes.len() {
+        io::print_hex(libc::STDOUT_FILENO, wide(bytes[k]), 2);
+        k += 1;
+    }
+}
+
+fn wide(b: u8) -> u64 {
+    b as u64
+}
+
 pub fn refused(number: u8) {
     put(b"refused");
     byte(number);

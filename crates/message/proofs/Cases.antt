@@ -1,12 +1,13 @@
 -- What a case of a message or a type gives, said once for all cases.
 -- Assumes nothing.
-use mathlib.Core.Path.{_≡_, ap, _∙_, sym, subst}
+use mathlib.Core.Path.{_≡_, refl, ap, _∙_, sym, subst}
 use mathlib.Core.Bool.{Bool, true, false, not}
-use mathlib.Core.List.{List}
+use mathlib.Core.List.{List, [], _∷_}
 use Prim.Native.Nat.{ℕ, _+_, _≤_, _<_}
-use borrow.Author.Tests.{ltb-false, ne-eqb}
+use borrow.Author.Tests.{eqb-false, eqb-true, ltb-false, ne-eqb}
 use lib.Dec.{eqb}
 use lib.ListN.{getD}
+use Rattle.wire.specs.Choice.{listedAt}
 use Rattle.wire.specs.Layout.{decode, widthOf}
 use Rattle.fields.specs.Table.{tabulate}
 use Rattle.fields.proofs.Table.{entry}
@@ -38,10 +39,27 @@ abbrev pub Unopened : ℕ → Type 0
 Unopened t =
     (((((((((((Unit {0} × (t ≡ 9 → ⊥)) × (t ≡ 11 → ⊥)) × (t ≡ 12 → ⊥)) × (t ≡ 20 → ⊥)) × (t ≡ 21 → ⊥)) × (t ≡ 22 → ⊥)) × (t ≡ 23 → ⊥)) × (t ≡ 24 → ⊥)) × (t ≡ 25 → ⊥)) × (t ≡ 26 → ⊥)) × (t ≡ 27 → ⊥))
 
+-- of a table with a row for each type that is opened, such a type meets the last one
+module _ {A : Type 0} (a9 a11 a12 a20 a21 a22 a23 a24 a25 a26 a27 last : A) where
+  pub unlisted : (t : ℕ) → Unopened t → last ≡ listedAt t ((9, a9) ∷ (11, a11) ∷ (12, a12) ∷ (20, a20) ∷ (21, a21) ∷ (22, a22) ∷ (23, a23) ∷ (24, a24) ∷ (25, a25) ∷ (26, a26) ∷ (27, a27) ∷ []) last
+  unlisted t h =
+      simp (ne-eqb t 9 (h .0 .0 .0 .0 .0 .0 .0 .0 .0 .0 .1), ne-eqb t 11 (h .0 .0 .0 .0 .0 .0 .0 .0 .0 .1), ne-eqb t 12 (h .0 .0 .0 .0 .0 .0 .0 .0 .1), ne-eqb t 20 (h .0 .0 .0 .0 .0 .0 .0 .1), ne-eqb t 21 (h .0 .0 .0 .0 .0 .0 .1), ne-eqb t 22 (h .0 .0 .0 .0 .0 .1), ne-eqb t 23 (h .0 .0 .0 .0 .1), ne-eqb t 24 (h .0 .0 .0 .1), ne-eqb t 25 (h .0 .0 .1), ne-eqb t 26 (h .0 .1), ne-eqb t 27 (h .1))
+
 pub unopened : (t : ℕ) (s : List ℕ) → Unopened t → bare (Other t) ≡ fieldsOf t s
 unfolding fieldsOf messageOf
-unopened t s h =
-    simp (ne-eqb t 9 (h .0 .0 .0 .0 .0 .0 .0 .0 .0 .0 .1), ne-eqb t 11 (h .0 .0 .0 .0 .0 .0 .0 .0 .0 .1), ne-eqb t 12 (h .0 .0 .0 .0 .0 .0 .0 .0 .1), ne-eqb t 20 (h .0 .0 .0 .0 .0 .0 .0 .1), ne-eqb t 21 (h .0 .0 .0 .0 .0 .0 .1), ne-eqb t 22 (h .0 .0 .0 .0 .0 .1), ne-eqb t 23 (h .0 .0 .0 .0 .1), ne-eqb t 24 (h .0 .0 .0 .1), ne-eqb t 25 (h .0 .0 .1), ne-eqb t 26 (h .0 .1), ne-eqb t 27 (h .1))
+unopened t s h = unlisted _ _ _ _ _ _ _ _ _ _ _ (bare (Other t)) t h
+
+-- what holds of each type that is opened, and of the others, holds of all
+module _ (P : ℕ → Type 0) where
+  either : (k t : ℕ) → P k → ((t ≡ k → ⊥) → P t) → P t
+  either k t same other = go (eqb t k) refl where
+    go : (b : Bool) → eqb t k ≡ b → P t
+    go true e = subst P (sym (eqb-true t k e)) same
+    go false e = other (eqb-false t k e)
+
+  pub by-type : P 9 → P 11 → P 12 → P 20 → P 21 → P 22 → P 23 → P 24 → P 25 → P 26 → P 27 → ((t : ℕ) → Unopened t → P t) → (t : ℕ) → P t
+  by-type p9 p11 p12 p20 p21 p22 p23 p24 p25 p26 p27 others t =
+      either 9 t p9 (λ n9. either 11 t p11 (λ n11. either 12 t p12 (λ n12. either 20 t p20 (λ n20. either 21 t p21 (λ n21. either 22 t p22 (λ n22. either 23 t p23 (λ n23. either 24 t p24 (λ n24. either 25 t p25 (λ n25. either 26 t p26 (λ n26. either 27 t p27 (λ n27. others t (((((((((((tt, n9), n11), n12), n20), n21), n22), n23), n24), n25), n26), n27))))))))))))
 
 -- what the table has at a type
 pub needed : (sizes : List ℕ) (k : ℕ) → sizes ≡ payloadTable → k < 256 → getD sizes k 0 ≡ payloadOf k

@@ -1,13 +1,15 @@
 // One message of the overnight channels.
 //
 // `read` answers for every byte string, of any length, as document 01 says: 7, then 14, else the
-// fields (specs/Reading.antt). The payloads, the layouts and the field rules stand in specs/, one
-// file each, and every function's contract is an equation with a definition there. `parts` has
-// what other crates share.
+// fields (specs/Reading.antt). `write` puts a message at a place in a lent buffer, or answers 14,
+// then 11, and every other byte stays (specs/Writing.antt). The payloads, the layouts and the field
+// rules stand in specs/, one file each, and reading and writing go along the same layouts: what is
+// written reads back, and what was read is written back to its own bytes (proofs/Trips.antt).
+// `parts` has what other crates share.
 mod answer;
 mod kinds;
 pub mod parts;
-mod rules;
+pub mod rules;
 pub mod table;
 
 pub use answer::Reading;

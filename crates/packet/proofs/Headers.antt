@@ -38,6 +38,7 @@ module _ (s : List ℕ) where
   pub record Passed : Type 0 where
     pub least : 12 ≤ length s
     pub most : length s ≤ 1472
+    pub whole : headerIn s .size ≡ length s
     pub flags : decided (flagsOf (headerIn s)) .0 ≡ 0
 
   pub passed : decided (headerTests s) .0 ≡ 0 → Passed
@@ -46,7 +47,7 @@ module _ (s : List ℕ) where
     where
       flagged : ltb (length s) 12 ≡ false → ltb 1472 (length s) ≡ false → (b : Bool) → eqb (headerIn s .size) (length s) ≡ b → Passed
       flagged e₁ e₂ true e₃ =
-          record { least = ltb-false _ _ e₁; most = ltb-false _ _ e₂; flags = simp (e₁, e₂, e₃) at h }
+          record { least = ltb-false _ _ e₁; most = ltb-false _ _ e₂; whole = eqb-true _ _ e₃; flags = simp (e₁, e₂, e₃) at h }
       flagged e₁ e₂ false e₃ =
           let z : _≡_ {A = ℕ} 3 0 = simp (e₁, e₂, e₃) at h in
           absurd (omega arith)

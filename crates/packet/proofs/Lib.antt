@@ -2,3 +2,4 @@
 pub mod Headers
 pub mod Judgements
 pub mod Walking
+pub mod Writings

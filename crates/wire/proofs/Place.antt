@@ -3,10 +3,10 @@
 use mathlib.Core.Path.{_≡_, refl, ap, _∙_, sym, subst}
 use mathlib.Core.List.{List, [], _∷_, _++_, append-assoc, append-nil}
 use Prim.Native.Nat.{ℕ, zero, suc, _+_, _-_, _*_, _^_, _≤_, _<_, min}
-use native.Mathlib.Nat.{add-assoc}
+use native.Mathlib.Nat.{add-assoc, add-zero}
 use native.Mathlib.Omega.{arith}
 use lib.ListN.{length, getD, take, drop, length-append, length-take, length-drop, take-append-drop}
-use lib.Seq.{drop-cons, take-at, drop-at, drop-drop, length-take-le, take-add}
+use lib.Seq.{drop-cons, take-all, take-at, drop-at, drop-drop, length-take-le, take-add}
 use Rattle.wire.specs.Number.{num, be, behind, part, splice, Bytes}
 use Rattle.wire.proofs.Digits.{length-be, num-be, be-num}
 
@@ -63,12 +63,30 @@ splice-part s at w h =
     rw (length-part s at w h, part-is s at w h, ← drop-drop w at s, take-append-drop w (drop at s))
     (take-append-drop at s)
 
+-- bytes between others are read where they stand, and a longer part is two
+pub part-between : (pre bs rest : List ℕ) → part (pre ++ (bs ++ rest)) (length pre) (length bs) ≡ bs
+part-between pre bs rest =
+    part-is (pre ++ (bs ++ rest)) (length pre) (length bs) (simp length-append (omega arith))
+    ∙ ap (take (length bs)) (drop-at pre (bs ++ rest) (length pre) refl)
+    ∙ take-at bs rest (length bs) refl
+
+pub part-add : (s : List ℕ) (at v w : ℕ) → at + (v + w) ≤ length s → part s at v ++ part s (at + v) w ≡ part s at (v + w)
+part-add s at v w h =
+    rw (part-is s at v (omega arith), part-is s (at + v) w (omega arith), part-is s at (v + w) h, take-add v w (drop at s), drop-drop v at s)
+
+pub part-all : (s : List ℕ) → part s 0 (length s) ≡ s
+part-all s = part-is s 0 (length s) (omega arith) ∙ take-all (length s) s (omega arith)
+
 -- two puts side by side are one
-pub splice-next : (s : List ℕ) (at : ℕ) (xs ys : List ℕ) → at + length xs + length ys ≤ length s → splice (splice s at xs) (at + length xs) ys ≡ splice s at (xs ++ ys)
+pub splice-none : (s : List ℕ) (at : ℕ) → splice s at [] ≡ s
+unfolding splice
+splice-none s at = rw (add-zero at) (take-append-drop at s)
+
+pub splice-next : (s : List ℕ) (at : ℕ) (xs ys : List ℕ) → at ≤ length s → splice (splice s at xs) (at + length xs) ys ≡ splice s at (xs ++ ys)
 unfolding splice
 splice-next s at xs ys h =
     let n = at + length xs in
-    let front : length (take at s ++ xs) ≡ n = length-append (take at s) xs ∙ ap (λ (k : ℕ). k + length xs) (length-take-le at s (omega arith)) in
+    let front : length (take at s ++ xs) ≡ n = length-append (take at s) xs ∙ ap (λ (k : ℕ). k + length xs) (length-take-le at s h) in
     let end : drop (n + length ys) (take at s ++ xs ++ drop n s) ≡ drop (n + length ys) s =
     sym (drop-drop (length ys) n (take at s ++ xs ++ drop n s))
     ∙ ap (drop (length ys)) (drop-at (take at s ++ xs) (drop n s) n front)
@@ -84,9 +102,10 @@ written-reads s at w n small h =
     (part-splice s at (be w n) (rw (length-be w n) h)))
     ∙ num-be w n small
 
-pub read-writes : (s : List ℕ) (at w : ℕ) → Bytes s → at + w ≤ length s → splice s at (be w (num (part s at w))) ≡ s
-read-writes s at w bytes h =
-    let e : be w (num (part s at w)) ≡ part s at w =
+pub be-part : (s : List ℕ) (at w : ℕ) → Bytes s → at + w ≤ length s → be w (num (part s at w)) ≡ part s at w
+be-part s at w bytes h =
     subst (λ (k : ℕ). be k (num (part s at w)) ≡ part s at w) (length-part s at w h)
-    (be-num (part s at w) (part-bytes s at w bytes)) in
-    rw e (splice-part s at w h)
+    (be-num (part s at w) (part-bytes s at w bytes))
+
+pub read-writes : (s : List ℕ) (at w : ℕ) → Bytes s → at + w ≤ length s → splice s at (be w (num (part s at w))) ≡ s
+read-writes s at w bytes h = rw (be-part s at w bytes h) (splice-part s at w h)

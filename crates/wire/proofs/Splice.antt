@@ -1,12 +1,13 @@
--- Bytes stored one after the other, as straight-line code stores them, are one splice.
+-- Bytes stored one after the other, by straight-line code or by a loop, are one splice.
 -- Assumes nothing.
 use mathlib.Core.Path.{_≡_, refl, ap, _∙_, sym}
 use mathlib.Core.List.{List, [], _∷_, _++_, append-assoc}
-use Prim.Native.Nat.{ℕ, zero, suc, _+_, _≤_}
+use Prim.Native.Nat.{ℕ, zero, suc, _+_, _≤_, _<_}
 use native.Mathlib.Nat.{add-suc}
+use native.Mathlib.Omega.{arith}
 use native.Mathlib.Numerals.{add-one}
-use lib.ListN.{length, set, take, drop}
-use lib.Seq.{sets, sets-eq}
+use lib.ListN.{length, getD, set, take, drop}
+use lib.Seq.{sets, sets-eq, paste, paste-suc, take-all}
 use Rattle.wire.specs.Number.{splice}
 
 -- stored from the k-th behind a place on
@@ -32,3 +33,17 @@ stored-sets s at (b ∷ bs) =
 pub stored-splice : (s : List ℕ) (at : ℕ) (bs : List ℕ) → at + length bs ≤ length s → stored s at bs ≡ splice s at bs
 unfolding splice
 stored-splice s at bs h = stored-sets s at bs ∙ sets-eq bs s at h ∙ append-assoc (take at s) bs (drop (at + length bs) s)
+
+-- a loop's next store, and its last
+pub pasted-more : (s : List ℕ) (at : ℕ) (bs : List ℕ) (k : ℕ) {t : List ℕ} → t ≡ paste s at bs k → at + length bs ≤ length s → k < length bs → set t (at + k) (getD bs k 0) ≡ paste s at bs (k + 1)
+pasted-more s at bs k e room h =
+    ap (λ (l : List ℕ). set l (at + k) (getD bs k 0)) e
+    ∙ paste-suc s at bs k 0 (omega arith) h
+    ∙ ap (paste s at bs) (sym (add-one k))
+
+pub pasted-all : (s : List ℕ) (at : ℕ) (bs : List ℕ) (k : ℕ) {t : List ℕ} → t ≡ paste s at bs k → k ≤ length bs → length bs ≤ k → t ≡ splice s at bs
+unfolding splice
+pasted-all s at bs k e most least =
+    let whole : k ≡ length bs = omega arith in
+    e ∙ ap (paste s at bs) whole
+    ∙ rw (take-all (length bs) bs (omega arith)) (append-assoc (take at s) bs (drop (at + length bs) s))

@@ -1,10 +1,11 @@
 -- A layout: the fields of a header or a message, one behind the other. Reading and writing both go along it,
 -- so an offset stands nowhere else.
 -- Assumes nothing.
+use mathlib.Core.Path.{_≡_}
 use mathlib.Core.List.{List, [], _∷_, _++_}
-use Prim.Native.Nat.{ℕ, _+_}
-use lib.ListN.{getD}
-use Rattle.wire.specs.Number.{num, be, part}
+use Prim.Native.Nat.{ℕ, _+_, _^_, _<_}
+use lib.ListN.{length, getD}
+use Rattle.wire.specs.Number.{num, be, part, splice, Bytes}
 
 -- a field is a number of w bytes or a text of w bytes
 pub data Field : Type 0 where
@@ -52,6 +53,10 @@ encode [] (v ∷ vs) = []
 encode (f ∷ fs) [] = []
 encode (f ∷ fs) (v ∷ vs) = bytesOf f v ++ encode fs vs
 
+-- a row put at a place in bytes, all others staying
+unfoldable pub putRow : List Field → List Value → List ℕ → ℕ → List ℕ
+putRow fs vs s at = splice s at (encode fs vs)
+
 -- the number, or the text, that the k-th field holds
 abbrev pub numberOf : Value → ℕ
 numberOf (numberIs n) = n
@@ -66,3 +71,17 @@ numberIn vs k = numberOf (getD vs k (numberIs 0))
 
 abbrev pub textIn : List Value → ℕ → List ℕ
 textIn vs k = textOf (getD vs k (textIs []))
+
+-- a value that a field holds: a number below 256 ^ w, or a text of exactly w bytes
+abbrev pub Holds : Field → Value → Type 0
+Holds (number w) (numberIs n) = n < 256 ^ w
+Holds (number w) (textIs bs) = ⊥
+Holds (text w) (numberIs n) = ⊥
+Holds (text w) (textIs bs) = (length bs ≡ w) × Bytes bs
+
+-- a row that fits a layout: as many values as fields, each one that its field holds
+abbrev pub Fits : List Field → List Value → Type 0
+Fits [] [] = Unit {0}
+Fits [] (v ∷ vs) = ⊥
+Fits (f ∷ fs) [] = ⊥
+Fits (f ∷ fs) (v ∷ vs) = Holds f v × Fits fs vs

@@ -12,6 +12,7 @@ pub use read::u8_at;
 pub use read::u16_at;
 pub use read::u32_at;
 pub use read::u64_at;
+pub use write::put_text;
 pub use write::put_u8;
 pub use write::put_u16;
 pub use write::put_u32;

@@ -1,4 +1,4 @@
-// Parts: a number put at a place, all other bytes staying.
+// Parts: a number or a text put at a place, all other bytes staying.
 ghost use mathlib.Core.Path.{_≡_};
 ghost use Prim.Native.Nat.{_+_, _≤_};
 ghost use lib.ListN.{length};
@@ -41,4 +41,15 @@ pub fn put_u64(buf: &mut [u8], at: usize, n: u64)
     buf[at + 5] = (n / 65536 % 256) as u8;
     buf[at + 6] = (n / 256 % 256) as u8;
     buf[at + 7] = (n % 256) as u8;
+}
+
+pub fn put_text(buf: &mut [u8], at: usize, text: &[u8])
+    requires { ⌜ at + length (now text) ≤ length (now buf) ⌝ }
+    ensures { λ _. ⌜ now (buf .exit) ≡ splice (now (buf .entry)) at (now (text .entry)) ⌝ }
+{
+    let mut k = 0;
+    while k < text.len() {
+        buf[at + k] = text[k];
+        k += 1;
+    }
 }

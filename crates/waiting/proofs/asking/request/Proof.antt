@@ -1,0 +1,25 @@
+-- The five fields of a request, put one behind the other, are the row put.
+-- Assumes nothing.
+use Rattle.wire.proofs.Layouts.{puts-row}
+use borrow.Author.Needs.{needs}
+use Rattle.waiting.proofs.asking.request.Statement.{statement}
+use Rattle.waiting.proofs.asking.request.Tie as tie
+
+returns : tie.Need-returns
+returns c = puts-row _ _ _ _ (search needs) (search needs) (cc)
+
+pub request-spec : {M : Type 1} → statement M
+request-spec =
+    tie.close
+    (tie.spec
+    (λ c κs. search needs)
+    (λ c. search needs)
+    (λ c κs. search needs)
+    (λ c. search needs)
+    (λ c κs. search needs)
+    (λ c. search needs)
+    (λ c κs. search needs)
+    (λ c. search needs)
+    (λ c κs. search needs)
+    (λ c. search needs)
+    returns)

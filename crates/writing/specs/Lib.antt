@@ -1,0 +1,2 @@
+-- What `writing` promises: one message written at a place.
+pub mod Writing

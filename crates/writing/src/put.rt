@@ -1,0 +1,400 @@
+// Parts: the fields of a message put at a place, all other bytes staying; a long row goes in two
+// halves, which keeps each proof short. No host needs them.
+ghost use mathlib.Core.List.{[], _∷_};
+ghost use mathlib.Core.Path.{_≡_};
+ghost use Prim.Native.Nat.{_+_, _≤_};
+ghost use lib.ListN.{drop, length, take};
+ghost use Rattle.wire.specs.Layout.{numberIs, putRow, textIs, widthOf};
+ghost use Rattle.message.specs.Layouts as layouts;
+ghost use Rattle.message.specs.Row.{rowOf, rowWith, typeOf, typeOfTerms};
+use message::Body;
+use message::Message;
+use message::Terms;
+
+fn security_front(
+    buf: &mut [u8],
+    at: usize,
+    symbol: [u8; 14],
+    updated: u64,
+    action: u8,
+    class: u8,
+    security: u32,
+)
+    requires { ⌜ at + widthOf (take 5 layouts.security) ≤ length (now buf) ⌝ }
+    ensures { λ _. ⌜ now (buf .exit) ≡ putRow (take 5 layouts.security) (textIs symbol ∷ numberIs updated ∷ numberIs action ∷ numberIs class ∷ numberIs security ∷ []) (now (buf .entry)) at ⌝ }
+{
+    wire::put_text(buf, at, &symbol);
+    wire::put_u64(buf, at + 14, updated);
+    wire::put_u8(buf, at + 22, action);
+    wire::put_u8(buf, at + 23, class);
+    wire::put_u32(buf, at + 24, security);
+}
+
+fn security_back(buf: &mut [u8], at: usize, flags: u16, tier: u8, reporting: u8, status: u8)
+    requires { ⌜ at + widthOf (drop 5 layouts.security) ≤ length (now buf) ⌝ }
+    ensures { λ _. ⌜ now (buf .exit) ≡ putRow (drop 5 layouts.security) (numberIs flags ∷ numberIs tier ∷ numberIs reporting ∷ numberIs status ∷ []) (now (buf .entry)) at ⌝ }
+{
+    wire::put_u16(buf, at, flags);
+    wire::put_u8(buf, at + 2, tier);
+    wire::put_u8(buf, at + 3, reporting);
+    wire::put_u8(buf, at + 4, status);
+}
+
+fn of_security(
+    buf: &mut [u8],
+    at: usize,
+    symbol: [u8; 14],
+    updated: u64,
+    action: u8,
+    class: u8,
+    security: u32,
+    flags: u16,
+    tier: u8,
+    reporting: u8,
+    status: u8,
+)
+    requires { ⌜ at + widthOf layouts.security ≤ length (now buf) ⌝ }
+    ensures { λ _. ⌜ now (buf .exit) ≡ putRow layouts.security (textIs symbol ∷ numberIs updated ∷ numberIs action ∷ numberIs class ∷ numberIs security ∷ numberIs flags ∷ numberIs tier ∷ numberIs reporting ∷ numberIs status ∷ []) (now (buf .entry)) at ⌝ }
+{
+    security_front(buf, at, symbol, updated, action, class, security);
+    security_back(buf, at + 28, flags, tier, reporting, status);
+}
+
+fn spin_start(buf: &mut [u8], at: usize, spin: u8, time: u64, last: u32)
+    requires { ⌜ at + widthOf layouts.spinStart ≤ length (now buf) ⌝ }
+    ensures { λ _. ⌜ now (buf .exit) ≡ putRow layouts.spinStart (numberIs spin ∷ numberIs time ∷ numberIs last ∷ []) (now (buf .entry)) at ⌝ }
+{
+    wire::put_u8(buf, at, spin);
+    wire::put_u64(buf, at + 1, time);
+    wire::put_u32(buf, at + 9, last);
+}
+
+fn spin_end(buf: &mut [u8], at: usize, spin: u8, count: u32, time: u64, last: u32)
+    requires { ⌜ at + widthOf layouts.spinEnd ≤ length (now buf) ⌝ }
+    ensures { λ _. ⌜ now (buf .exit) ≡ putRow layouts.spinEnd (numberIs spin ∷ numberIs count ∷ numberIs time ∷ numberIs last ∷ []) (now (buf .entry)) at ⌝ }
+{
+    wire::put_u8(buf, at, spin);
+    wire::put_u32(buf, at + 1, count);
+    wire::put_u64(buf, at + 5, time);
+    wire::put_u32(buf, at + 13, last);
+}
+
+fn trading_session(buf: &mut [u8], at: usize, time: u64, session: u8)
+    requires { ⌜ at + widthOf layouts.tradingSession ≤ length (now buf) ⌝ }
+    ensures { λ _. ⌜ now (buf .exit) ≡ putRow layouts.tradingSession (numberIs time ∷ numberIs session ∷ []) (now (buf .entry)) at ⌝ }
+{
+    wire::put_u64(buf, at, time);
+    wire::put_u8(buf, at + 8, session);
+}
+
+fn add_front(buf: &mut [u8], at: usize, id: [u8; 14], time: u32, side: u8, quantity: u32)
+    requires { ⌜ at + widthOf (take 4 layouts.add) ≤ length (now buf) ⌝ }
+    ensures { λ _. ⌜ now (buf .exit) ≡ putRow (take 4 layouts.add) (numberIs time ∷ textIs id ∷ numberIs side ∷ numberIs quantity ∷ []) (now (buf .entry)) at ⌝ }
+{
+    wire::put_u32(buf, at, time);
+    wire::put_text(buf, at + 4, &id);
+    wire::put_u8(buf, at + 18, side);
+    wire::put_u32(buf, at + 19, quantity);
+}
+
+fn add_back(
+    buf: &mut [u8],
+    at: usize,
+    symbol: [u8; 14],
+    firm: [u8; 4],
+    price: u64,
+    unsolicited: u8,
+    flags: u16,
+)
+    requires { ⌜ at + widthOf (drop 4 layouts.add) ≤ length (now buf) ⌝ }
+    ensures { λ _. ⌜ now (buf .exit) ≡ putRow (drop 4 layouts.add) (textIs symbol ∷ numberIs price ∷ textIs firm ∷ numberIs unsolicited ∷ numberIs flags ∷ []) (now (buf .entry)) at ⌝ }
+{
+    wire::put_text(buf, at, &symbol);
+    wire::put_u64(buf, at + 14, price);
+    wire::put_text(buf, at + 22, &firm);
+    wire::put_u8(buf, at + 26, unsolicited);
+    wire::put_u16(buf, at + 27, flags);
+}
+
+fn add(
+    buf: &mut [u8],
+    at: usize,
+    id: [u8; 14],
+    symbol: [u8; 14],
+    firm: [u8; 4],
+    time: u32,
+    side: u8,
+    quantity: u32,
+    price: u64,
+    unsolicited: u8,
+    flags: u16,
+)
+    requires { ⌜ at + widthOf layouts.add ≤ length (now buf) ⌝ }
+    ensures { λ _. ⌜ now (buf .exit) ≡ putRow layouts.add (numberIs time ∷ textIs id ∷ numberIs side ∷ numberIs quantity ∷ textIs symbol ∷ numberIs price ∷ textIs firm ∷ numberIs unsolicited ∷ numberIs flags ∷ []) (now (buf .entry)) at ⌝ }
+{
+    add_front(buf, at, id, time, side, quantity);
+    add_back(buf, at + 23, symbol, firm, price, unsolicited, flags);
+}
+
+fn update(buf: &mut [u8], at: usize, id: [u8; 14], time: u32, quantity: u32, price: u64, flags: u16)
+    requires { ⌜ at + widthOf layouts.update ≤ length (now buf) ⌝ }
+    ensures { λ _. ⌜ now (buf .exit) ≡ putRow layouts.update (numberIs time ∷ textIs id ∷ numberIs quantity ∷ numberIs price ∷ numberIs flags ∷ []) (now (buf .entry)) at ⌝ }
+{
+    wire::put_u32(buf, at, time);
+    wire::put_text(buf, at + 4, &id);
+    wire::put_u32(buf, at + 18, quantity);
+    wire::put_u64(buf, at + 22, price);
+    wire::put_u16(buf, at + 30, flags);
+}
+
+fn delete(buf: &mut [u8], at: usize, id: [u8; 14], time: u32)
+    requires { ⌜ at + widthOf layouts.delete ≤ length (now buf) ⌝ }
+    ensures { λ _. ⌜ now (buf .exit) ≡ putRow layouts.delete (numberIs time ∷ textIs id ∷ []) (now (buf .entry)) at ⌝ }
+{
+    wire::put_u32(buf, at, time);
+    wire::put_text(buf, at + 4, &id);
+}
+
+fn at_published(
+    buf: &mut [u8],
+    at: usize,
+    id: [u8; 14],
+    time: u32,
+    executed: u32,
+    remaining: u32,
+    execution: u64,
+)
+    requires { ⌜ at + widthOf layouts.execution ≤ length (now buf) ⌝ }
+    ensures { λ _. ⌜ now (buf .exit) ≡ putRow layouts.execution (numberIs time ∷ textIs id ∷ numberIs executed ∷ numberIs remaining ∷ numberIs execution ∷ []) (now (buf .entry)) at ⌝ }
+{
+    wire::put_u32(buf, at, time);
+    wire::put_text(buf, at + 4, &id);
+    wire::put_u32(buf, at + 18, executed);
+    wire::put_u32(buf, at + 22, remaining);
+    wire::put_u64(buf, at + 26, execution);
+}
+
+fn at_own(
+    buf: &mut [u8],
+    at: usize,
+    id: [u8; 14],
+    time: u32,
+    executed: u32,
+    remaining: u32,
+    execution: u64,
+    price: u64,
+)
+    requires { ⌜ at + widthOf layouts.priced ≤ length (now buf) ⌝ }
+    ensures { λ _. ⌜ now (buf .exit) ≡ putRow layouts.priced (numberIs time ∷ textIs id ∷ numberIs executed ∷ numberIs remaining ∷ numberIs execution ∷ numberIs price ∷ []) (now (buf .entry)) at ⌝ }
+{
+    at_published(buf, at, id, time, executed, remaining, execution);
+    wire::put_u64(buf, at + 34, price);
+}
+
+// An execution, at the published price or at its own.
+fn of_execution(
+    buf: &mut [u8],
+    at: usize,
+    id: [u8; 14],
+    time: u32,
+    executed: u32,
+    remaining: u32,
+    execution: u64,
+    terms: Terms,
+)
+    requires { ⌜ at + widthOf (layouts.layoutOf (typeOfTerms terms)) ≤ length (now buf) ⌝ }
+    ensures { λ _. ⌜ now (buf .exit) ≡ putRow (layouts.layoutOf (typeOfTerms terms)) (rowWith id [] [] (Body.Execution time executed remaining execution terms)) (now (buf .entry)) at ⌝ }
+{
+    match terms {
+        Terms::Published => at_published(buf, at, id, time, executed, remaining, execution),
+        Terms::Own(price) => at_own(buf, at, id, time, executed, remaining, execution, price),
+    }
+}
+
+fn top_front(buf: &mut [u8], at: usize, symbol: [u8; 14], time: u32, ask: u64, askvolume: u32)
+    requires { ⌜ at + widthOf (take 4 layouts.top) ≤ length (now buf) ⌝ }
+    ensures { λ _. ⌜ now (buf .exit) ≡ putRow (take 4 layouts.top) (numberIs time ∷ textIs symbol ∷ numberIs ask ∷ numberIs askvolume ∷ []) (now (buf .entry)) at ⌝ }
+{
+    wire::put_u32(buf, at, time);
+    wire::put_text(buf, at + 4, &symbol);
+    wire::put_u64(buf, at + 18, ask);
+    wire::put_u32(buf, at + 26, askvolume);
+}
+
+fn top_back(buf: &mut [u8], at: usize, bid: u64, bidvolume: u32, unsolicited: u8)
+    requires { ⌜ at + widthOf (drop 4 layouts.top) ≤ length (now buf) ⌝ }
+    ensures { λ _. ⌜ now (buf .exit) ≡ putRow (drop 4 layouts.top) (numberIs bid ∷ numberIs bidvolume ∷ numberIs unsolicited ∷ []) (now (buf .entry)) at ⌝ }
+{
+    wire::put_u64(buf, at, bid);
+    wire::put_u32(buf, at + 8, bidvolume);
+    wire::put_u8(buf, at + 12, unsolicited);
+}
+
+fn top(
+    buf: &mut [u8],
+    at: usize,
+    symbol: [u8; 14],
+    time: u32,
+    ask: u64,
+    askvolume: u32,
+    bid: u64,
+    bidvolume: u32,
+    unsolicited: u8,
+)
+    requires { ⌜ at + widthOf layouts.top ≤ length (now buf) ⌝ }
+    ensures { λ _. ⌜ now (buf .exit) ≡ putRow layouts.top (numberIs time ∷ textIs symbol ∷ numberIs ask ∷ numberIs askvolume ∷ numberIs bid ∷ numberIs bidvolume ∷ numberIs unsolicited ∷ []) (now (buf .entry)) at ⌝ }
+{
+    top_front(buf, at, symbol, time, ask, askvolume);
+    top_back(buf, at + 30, bid, bidvolume, unsolicited);
+}
+
+fn trade_front(buf: &mut [u8], at: usize, symbol: [u8; 14], time: u32, side: u8, quantity: u32)
+    requires { ⌜ at + widthOf (take 4 layouts.trade) ≤ length (now buf) ⌝ }
+    ensures { λ _. ⌜ now (buf .exit) ≡ putRow (take 4 layouts.trade) (numberIs time ∷ numberIs side ∷ numberIs quantity ∷ textIs symbol ∷ []) (now (buf .entry)) at ⌝ }
+{
+    wire::put_u32(buf, at, time);
+    wire::put_u8(buf, at + 4, side);
+    wire::put_u32(buf, at + 5, quantity);
+    wire::put_text(buf, at + 9, &symbol);
+}
+
+fn trade_back(buf: &mut [u8], at: usize, price: u64, execution: u64, reserved: u64)
+    requires { ⌜ at + widthOf (drop 4 layouts.trade) ≤ length (now buf) ⌝ }
+    ensures { λ _. ⌜ now (buf .exit) ≡ putRow (drop 4 layouts.trade) (numberIs price ∷ numberIs execution ∷ numberIs reserved ∷ []) (now (buf .entry)) at ⌝ }
+{
+    wire::put_u64(buf, at, price);
+    wire::put_u64(buf, at + 8, execution);
+    wire::put_u64(buf, at + 16, reserved);
+}
+
+fn trade(
+    buf: &mut [u8],
+    at: usize,
+    symbol: [u8; 14],
+    time: u32,
+    side: u8,
+    quantity: u32,
+    price: u64,
+    execution: u64,
+    reserved: u64,
+)
+    requires { ⌜ at + widthOf layouts.trade ≤ length (now buf) ⌝ }
+    ensures { λ _. ⌜ now (buf .exit) ≡ putRow layouts.trade (numberIs time ∷ numberIs side ∷ numberIs quantity ∷ textIs symbol ∷ numberIs price ∷ numberIs execution ∷ numberIs reserved ∷ []) (now (buf .entry)) at ⌝ }
+{
+    trade_front(buf, at, symbol, time, side, quantity);
+    trade_back(buf, at + 23, price, execution, reserved);
+}
+
+// The fields of a message by its kind; of 28 and unlisted types there are none.
+pub fn fields(message: Message, buf: &mut [u8], at: usize)
+    requires { ⌜ at + widthOf (layouts.layoutOf (typeOf message)) ≤ length (now buf) ⌝ }
+    ensures { λ _. ⌜ now (buf .exit) ≡ putRow (layouts.layoutOf (typeOf message)) (rowOf message) (now (buf .entry)) at ⌝ }
+{
+    let id = message.id;
+    let symbol = message.symbol;
+    let firm = message.firm;
+    let body = message.body;
+    match body {
+        Body::Security {
+            updated,
+            action,
+            class,
+            security,
+            flags,
+            tier,
+            reporting,
+            status,
+        } => of_security(
+            buf,
+            at,
+            symbol,
+            updated,
+            action,
+            class,
+            security,
+            flags,
+            tier,
+            reporting,
+            status,
+        ),
+        Body::SpinStart { spin, time, last } => spin_start(buf, at, spin, time, last),
+        Body::SpinEnd {
+            spin,
+            count,
+            time,
+            last,
+        } => spin_end(buf, at, spin, count, time, last),
+        Body::TradingSession { time, session } => trading_session(buf, at, time, session),
+        Body::Add {
+            time,
+            side,
+            quantity,
+            price,
+            unsolicited,
+            flags,
+        } => add(
+            buf,
+            at,
+            id,
+            symbol,
+            firm,
+            time,
+            side,
+            quantity,
+            price,
+            unsolicited,
+            flags,
+        ),
+        Body::Update {
+            time,
+            quantity,
+            price,
+            flags,
+        } => update(buf, at, id, time, quantity, price, flags),
+        Body::Delete { time } => delete(buf, at, id, time),
+        Body::Execution {
+            time,
+            executed,
+            remaining,
+            execution,
+            terms,
+        } => of_execution(buf, at, id, time, executed, remaining, execution, terms),
+        Body::Top {
+            time,
+            ask,
+            askvolume,
+            bid,
+            bidvolume,
+            unsolicited,
+        } => top(
+            buf,
+            at,
+            symbol,
+            time,
+            ask,
+            askvolume,
+            bid,
+            bidvolume,
+            unsolicited,
+        ),
+        Body::Trade {
+            time,
+            side,
+            quantity,
+            price,
+            execution,
+            reserved,
+        } => trade(
+            buf,
+            at,
+            symbol,
+            time,
+            side,
+            quantity,
+            price,
+            execution,
+            reserved,
+        ),
+        Body::Other(_) => {}
+    }
+}
