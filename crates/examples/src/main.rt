@@ -12,5 +12,6 @@ fn main() {
     headers::run();
     messages::run();
     sweeps::run();
-    writes::run();
+    messages::written();
+    writes::headers();
 }

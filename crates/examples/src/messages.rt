@@ -1,5 +1,6 @@
 // Messages: each type, each field rule, and the size at both ends.
 use crate::show;
+use crate::writes;
 
 // A good message with MessageSize set to size, a number of `width` bytes put at a place, and
 // `length` bytes of it lent, zeros behind its end.
@@ -58,7 +59,10 @@ fn references() {
 fn orders() {
     let add = add();
     sizes(&add);
+    lengths(&add);
     adds(&add);
+    symbols(&add);
+    prices(&add);
     let update = update();
     updates(&update);
     let delete = delete();
@@ -143,6 +147,9 @@ fn sizes(base: &[u8]) {
     );
     case(b"Order Add, MessageSize 0", base, 0, 55, 0, 0, 0);
     case(b"Order Add, MessageSize 65,535", base, 65535, 55, 0, 0, 0);
+}
+
+fn lengths(base: &[u8]) {
     case(b"Order Add of 128 bytes", base, 128, 128, 0, 0, 0);
     case(b"Order Add of 129 bytes", base, 129, 129, 0, 0, 0);
     case(b"Order Add, no byte lent", base, 55, 0, 0, 0, 0);
@@ -189,6 +196,9 @@ fn adds(base: &[u8]) {
         4,
         4294967295,
     );
+}
+
+fn symbols(base: &[u8]) {
     case(
         b"Order Add, symbol starts with a space",
         base,
@@ -201,6 +211,9 @@ fn adds(base: &[u8]) {
     case(b"Order Add, a symbol byte 0x7F", base, 55, 55, 27, 1, 127);
     case(b"Order Add, a symbol byte 0x7E", base, 55, 55, 27, 1, 126);
     case(b"Order Add, a symbol byte 0x1F", base, 55, 55, 39, 1, 31);
+}
+
+fn prices(base: &[u8]) {
     case(b"Order Add, price 0", base, 55, 55, 40, 8, 0);
     case(b"Order Add, price 1", base, 55, 55, 40, 8, 1);
     case(
@@ -310,46 +323,100 @@ fn others(base: &[u8]) {
     case(b"type 255 of 128 bytes", base, 128, 128, 2, 1, 255);
 }
 
-pub fn security() -> [u8; 36] {
+pub fn written() {
+    written_references();
+    written_orders();
+    written_shares();
+    written_places();
+}
+
+fn written_references() {
+    let security = security();
+    writes::case(b"write Security", &security, 64, 3);
+    let start = spin_start();
+    writes::case(b"write Start of Spin", &start, 64, 3);
+    let end = spin_end();
+    writes::case(b"write End of Spin", &end, 64, 3);
+    let session = session();
+    writes::case(b"write Trading Session", &session, 64, 3);
+}
+
+fn written_orders() {
+    let add = add();
+    writes::case(b"write Order Add", &add, 64, 3);
+    let update = update();
+    writes::case(b"write Order Update", &update, 64, 3);
+    let delete = delete();
+    writes::case(b"write Order Delete", &delete, 64, 3);
+    let execution = execution();
+    writes::case(b"write Execution", &execution, 64, 3);
+    let priced = priced();
+    writes::case(b"write Execution with Price", &priced, 64, 3);
+}
+
+fn written_shares() {
+    let top = top();
+    writes::case(b"write Top of Book", &top, 64, 3);
+    let trade = trade();
+    writes::case(b"write Trade", &trade, 64, 3);
+}
+
+fn written_places() {
+    let delete = delete();
+    writes::case(b"write Order Delete, exact room", &delete, 24, 3);
+    writes::case(b"write Order Delete, one byte too few", &delete, 23, 3);
+    writes::case(b"write Order Delete behind the end", &delete, 24, 25);
+    writes::case(
+        b"write Order Delete at the largest place",
+        &delete,
+        24,
+        18446744073709551615,
+    );
+    let other = *b"\x00\x03\x1C";
+    writes::case(b"write Imbalance", &other, 64, 0);
+    writes::case(b"write Imbalance behind the end", &other, 0, 1);
+}
+
+fn security() -> [u8; 36] {
     *b"\x00$\x09MSFTF         \x00\x00\x01\x9AG\x03t\x00\x02\x01\x00\x01\x11q\x00\x01\x00AA"
 }
 
-pub fn spin_start() -> [u8; 16] {
+fn spin_start() -> [u8; 16] {
     *b"\x00\x10\x0B\x01\x00\x00\x01\x9AG\x03t\x00\x00\x00\x00\x00"
 }
 
-pub fn spin_end() -> [u8; 20] {
+fn spin_end() -> [u8; 20] {
     *b"\x00\x14\x0C\x01\x00\x00\x00\x04\x00\x00\x01\x9AG\x03t\x00\x00\x00\x00\x04"
 }
 
-pub fn session() -> [u8; 12] {
+fn session() -> [u8; 12] {
     *b"\x00\x0C\x14\x00\x00\x01\x9AG\x03t\x00\x06"
 }
 
-pub fn add() -> [u8; 55] {
+fn add() -> [u8; 55] {
     *b"\x007\x15\x04J\xA2\x007A400CY528L9SNB\x00\x00\x01,MSFTF         \x00\x00\x00\x00\x00\x13\x12\xD0ABCDN\x00\x00"
 }
 
-pub fn update() -> [u8; 35] {
+fn update() -> [u8; 35] {
     *b"\x00#\x16\x04J\xA2\x007A400CY528L9SN\x00\x00\x00\xC8\x00\x00\x00\x00\x00\x12\xEB\xC0\x00\x00"
 }
 
-pub fn delete() -> [u8; 21] {
+fn delete() -> [u8; 21] {
     *b"\x00\x15\x17\x04J\xA2\x007A400CY528L9SN"
 }
 
-pub fn execution() -> [u8; 37] {
+fn execution() -> [u8; 37] {
     *b"\x00%\x18\x04J\xA2\x007A400CY528L9SN\x00\x00\x00d\x00\x00\x00\xC8\x00\x00\x00\x00\x00\x00#)"
 }
 
-pub fn priced() -> [u8; 45] {
+fn priced() -> [u8; 45] {
     *b"\x00-\x19\x04J\xA2\x007A400CY528L9SN\x00\x00\x00d\x00\x00\x00\xC8\x00\x00\x00\x00\x00\x00#*\x00\x00\x00\x00\x00\x12\xFFH"
 }
 
-pub fn top() -> [u8; 46] {
+fn top() -> [u8; 46] {
     *b"\x00.\x1A\x04J\xA2\x00MSFTF         \x00\x00\x00\x00\x00\x139\xE0\x00\x00\x01\x90\x00\x00\x00\x00\x00\x13\x12\xD0\x00\x00\x01\xF4N"
 }
 
-pub fn trade() -> [u8; 50] {
+fn trade() -> [u8; 50] {
     *b"\x002\x1B\x04J\xA2\x00B\x00\x00\x002MSFTF         \x00\x00\x00\x00\x00\x13\x12\xD0\x00\x00\x00\x00\x00\x00#+\x00\x00\x00\x00\x00\x00\x00\x07"
 }

@@ -112,27 +112,48 @@ fn price_of(t: Terms) {
 fn fields(m: Message) {
     let body = m.body;
     match body {
-        Body::Security {
-            updated,
-            action,
-            class,
-            security,
-            flags,
-            tier,
-            reporting,
-            status,
-        } => {
-            byte(9);
-            symbol_of(m);
-            number(updated);
-            byte(action);
-            byte(class);
-            small(security);
-            small(flags as u32);
-            byte(tier);
-            byte(reporting);
-            byte(status);
-        }
+        Body::Security { .. } => security(m),
+        Body::SpinStart { .. } => reference(m),
+        Body::SpinEnd { .. } => reference(m),
+        Body::TradingSession { .. } => reference(m),
+        Body::Add { .. } => add(m),
+        Body::Update { .. } => order(m),
+        Body::Delete { .. } => order(m),
+        Body::Execution { .. } => order(m),
+        Body::Top { .. } => share(m),
+        Body::Trade { .. } => share(m),
+        Body::Other(kind) => byte(kind),
+    }
+}
+
+fn security(m: Message) {
+    let body = m.body;
+    if let Body::Security {
+        updated,
+        action,
+        class,
+        security: listed,
+        flags,
+        tier,
+        reporting,
+        status,
+    } = body {
+        byte(9);
+        symbol_of(m);
+        number(updated);
+        byte(action);
+        byte(class);
+        small(listed);
+        small(flags as u32);
+        byte(tier);
+        byte(reporting);
+        byte(status);
+    }
+}
+
+fn reference(m: Message) {
+    let body = m.body;
+    match body {
         Body::SpinStart { spin, time, last } => {
             byte(11);
             byte(spin);
@@ -156,13 +177,7 @@ fn fields(m: Message) {
             number(time);
             byte(session);
         }
-        Body::Add { .. } => add(m),
-        Body::Update { .. } => order(m),
-        Body::Delete { .. } => order(m),
-        Body::Execution { .. } => order(m),
-        Body::Top { .. } => share(m),
-        Body::Trade { .. } => share(m),
-        Body::Other(kind) => byte(kind),
+        _ => put(b""),
     }
 }
 

@@ -1,11 +1,10 @@
 // Writing: each type at a place in a buffer of 0xEE, the buffer whole, and the message read back.
-use crate::messages;
 use crate::show;
 use packet::Header;
 use writing::Written;
 
 // The message of these bytes written at a place in the first `room` bytes of a buffer.
-fn case(label: &[u8], bytes: &[u8], room: usize, at: usize) {
+pub fn case(label: &[u8], bytes: &[u8], room: usize, at: usize) {
     show::put(label);
     show::put(b": ");
     let mut buffer = [0xEEu8; 64];
@@ -70,62 +69,7 @@ fn write_header(header: Header, buffer: &mut [u8], room: usize) {
     }
 }
 
-pub fn run() {
-    references();
-    orders();
-    shares();
-    places();
-    headers();
-}
-
-fn references() {
-    let security = messages::security();
-    case(b"write Security", &security, 64, 3);
-    let start = messages::spin_start();
-    case(b"write Start of Spin", &start, 64, 3);
-    let end = messages::spin_end();
-    case(b"write End of Spin", &end, 64, 3);
-    let session = messages::session();
-    case(b"write Trading Session", &session, 64, 3);
-}
-
-fn orders() {
-    let add = messages::add();
-    case(b"write Order Add", &add, 64, 3);
-    let update = messages::update();
-    case(b"write Order Update", &update, 64, 3);
-    let delete = messages::delete();
-    case(b"write Order Delete", &delete, 64, 3);
-    let execution = messages::execution();
-    case(b"write Execution", &execution, 64, 3);
-    let priced = messages::priced();
-    case(b"write Execution with Price", &priced, 64, 3);
-}
-
-fn shares() {
-    let top = messages::top();
-    case(b"write Top of Book", &top, 64, 3);
-    let trade = messages::trade();
-    case(b"write Trade", &trade, 64, 3);
-}
-
-fn places() {
-    let delete = messages::delete();
-    case(b"write Order Delete, exact room", &delete, 24, 3);
-    case(b"write Order Delete, one byte too few", &delete, 23, 3);
-    case(b"write Order Delete behind the end", &delete, 24, 25);
-    case(
-        b"write Order Delete at the largest place",
-        &delete,
-        24,
-        18446744073709551615,
-    );
-    let other = *b"\x00\x03\x1C";
-    case(b"write Imbalance", &other, 64, 0);
-    case(b"write Imbalance behind the end", &other, 0, 1);
-}
-
-fn headers() {
+pub fn headers() {
     header(b"write header", 67, 0, 1, 16);
     header(b"write header of a heartbeat", 12, 1, 0, 12);
     header(b"write header, 11 bytes of buffer", 12, 1, 0, 11);

@@ -3,7 +3,7 @@ ghost use mathlib.Core.Path.{_≡_};
 ghost use mathlib.Core.Bool.{_&&_};
 ghost use Rattle.fields.specs.Id.{goodId};
 ghost use Rattle.fields.specs.Rules.{goodSymbol, goodSide, goodTradeSide, goodQuantity, goodPrice, goodInsidePrice, goodUnsolicited};
-ghost use Rattle.message.specs.Rules.{goodMessage, goodTerms};
+ghost use Rattle.message.specs.Rules.{goodBody, goodMessage, goodTerms};
 use crate::kinds::Body;
 use crate::kinds::Message;
 use crate::kinds::Terms;
@@ -87,6 +87,12 @@ pub fn good(message: Message) -> bool
     let id = message.id;
     let symbol = message.symbol;
     let body = message.body;
+    good_body(id, symbol, body)
+}
+
+fn good_body(id: [u8; 14], symbol: [u8; 14], body: Body) -> bool
+    ensures { λ r. ⌜ r ≡ goodBody id symbol body ⌝ }
+{
     match body {
         Body::Security { .. } => true,
         Body::SpinStart { .. } => true,

@@ -1,11 +1,11 @@
--- `message::good` answers by the kind.
+-- `message::good_body` answers by the kind.
 -- Assumes nothing.
 use mathlib.Core.Path.{refl}
 use Rattle.message.specs.Rules.{goodBody}
 use Rattle.message.proofs.Cases.{kind-is}
 use borrow.Author.Needs.{needs}
-use Rattle.message.proofs.rules.good.Statement.{statement}
-use Rattle.message.proofs.rules.good.Tie as tie
+use Rattle.message.proofs.rules.good_body.Statement.{statement}
+use Rattle.message.proofs.rules.good_body.Tie as tie
 
 returns : tie.Need-returns
 unfolding goodBody
@@ -51,8 +51,8 @@ returns-11 : tie.Need-returns-11
 unfolding goodBody
 returns-11 c = kind-is _ _ _ (c .enum-told5 .given .1) refl
 
-pub good-spec : {M : Type 1} → statement M
-good-spec =
+pub good-body-spec : {M : Type 1} → statement M
+good-body-spec =
     tie.close
     (tie.spec
     (λ c. search needs)
