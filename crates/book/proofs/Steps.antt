@@ -1,0 +1,263 @@
+-- One message, from what was decided to the book behind it: the facts that each arm of the code needs, over plain values.
+-- Assumes nothing.
+use mathlib.Core.Path.{_≡_, refl, ap, ap₂, _∙_, sym, subst}
+use mathlib.Core.Bool.{true}
+use mathlib.Core.List.{List, [], _∷_, _++_}
+use Prim.Native.Nat.{ℕ, zero, suc, _+_, _-_, _≤_, _<_}
+use native.Mathlib.Omega.{arith}
+use lib.Dec.{lit<}
+use lib.ListN.{length, getD, take, set, replicate, length-take, length-map, List·getD-map}
+use Rattle.wire.specs.Number.{part}
+use Rattle.fields.specs.Id.{numberOf}
+use Rattle.message.specs.Layouts.{layoutOf, typeIn}
+use Rattle.message.specs.Row.{fieldsOf, messageOf, typeOf}
+use Rattle.message.specs.Table.{payloadOf}
+use Rattle.book.specs.Lookup.{isAt, spotOf, frontOf, backOf, keyAt, symbolAt}
+use Rattle.book.specs.Tables.{Tables, blank, noOrder, noInside, places, idsOf, frontsOf, backsOf, rep, view}
+use Rattle.book.specs.Applying.{Whole, Naming, messageIn, topicOf, thereOf, seenOf, effectIn, carried, applyOf, orderOf, insideOf, faulted}
+use Rattle.book.specs.Rule.{Kept}
+use Rattle.message.specs.declared.kinds.Message.{Message}
+use Rattle.book.specs.declared.lookup.Found.{Found}
+use Rattle.book.specs.declared.lookup.Found.the-variants.{At, Nothing}
+use Rattle.book.specs.declared.tables.Order.{Order}
+use Rattle.book.specs.declared.tables.Inside.{Inside}
+use Rattle.book.specs.declared.tables.Faults.{Faults}
+use Rattle.book.specs.declared.tables.Book.{Book}
+use Rattle.book.specs.declared.deciding.Seen.{Seen}
+use Rattle.book.specs.declared.deciding.Effect.{Effect}
+use Rattle.book.specs.declared.deciding.Effect.the-variants.{Put, Replace, Remove, Renew, Enter, Record, Unchanged, Fault}
+use Rattle.book.proofs.Carrying.{live-is, held-is, orders-are, keys-are, fronts-are, backs-are, restored, restored-is, put-rep, enter-rep, replace-rep, remove-rep, renew-rep, marked-rep}
+use Rattle.book.proofs.Finding.{key-below, symbol-below, symbol-there}
+use Rattle.book.proofs.Holding.{take-places}
+use Rattle.book.proofs.Told.{Change, tells, AtOrder}
+use Rattle.book.proofs.Types.{opened, type-kept}
+
+-- what the code knows once the effect is decided
+pub record Decided (b : Book) (s : List ℕ) (key : ℕ) (topic : List ℕ) (e : Effect) : Type 0 where
+  pub kept : Kept b
+  pub whole : Whole s
+  pub value : key ≡ numberOf (messageIn s .id)
+  pub about : topic ≡ topicOf (messageIn s)
+  pub effect : e ≡ effectIn (view b) s
+
+-- ---- what is seen
+
+-- the live keys are those of the live orders; so it is with the insides
+pub front-keys : (n : ℕ) {array : List ℕ} {live : ℕ} (xs : List ℕ) → array ≡ places n 0 xs → live ≡ length xs → take live array ≡ xs
+front-keys n xs e l = ap₂ take l e ∙ take-places n 0 xs
+
+-- a place that holds nothing has no shares and no price, like what is read behind the end
+module _ (f : Order → ℕ) (none : f noOrder ≡ f blank) where
+  unused : (k i : ℕ) → f (getD (replicate k noOrder) i blank) ≡ f blank
+  unused zero i = refl
+  unused (suc k) zero = none
+  unused (suc k) (suc i) = unused k i
+
+  past-from : (xs : List Order) (k i : ℕ) → f (getD (xs ++ replicate k noOrder) i blank) ≡ f (getD xs i blank)
+  past-from [] k i = unused k i
+  past-from (x ∷ xs) k zero = refl
+  past-from (x ∷ xs) k (suc i) = past-from xs k i
+
+  past : (xs : List Order) (i : ℕ) → f (getD (places 256 noOrder xs) i blank) ≡ f (getD xs i blank)
+  unfolding places
+  past xs i = past-from xs (256 - length xs) i
+
+spot-any : (f : Found) (n : ℕ) → 0 < n → (isAt f ≡ true → spotOf f < n) → spotOf f < n
+spot-any (At place) n h g = g refl
+spot-any Nothing n h g = h
+
+module _ (b : Book) (s : List ℕ) (kept : Kept b) {key : ℕ} {topic : List ℕ}
+    (value : key ≡ numberOf (messageIn s .id)) (about : topic ≡ topicOf (messageIn s))
+    {order inside : Found} (found : order ≡ keyAt key (take (b .live) (b .keys)))
+    (looked : inside ≡ symbolAt topic (take (b .held) (b .fronts)) (take (b .held) (b .backs)))
+    {at : ℕ} (spot : at ≡ spotOf order) where
+  abbrev t : Tables
+  t = view b
+
+  order-seen : order ≡ keyAt (numberOf (messageIn s .id)) (idsOf (t .orders))
+  order-seen =
+      found
+      ∙ ap₂ keyAt value (front-keys 256 (idsOf (t .orders)) (keys-are b (kept .same)) (live-is b (kept .same) ∙ sym (length-map (t .orders) (λ o. o .id))))
+
+  inside-seen : inside ≡ symbolAt (topicOf (messageIn s)) (frontsOf (t .insides)) (backsOf (t .insides))
+  inside-seen =
+      let fronts : take (b .held) (b .fronts) ≡ frontsOf (t .insides) = front-keys 64 (frontsOf (t .insides)) (fronts-are b (kept .same)) (held-is b (kept .same) ∙ sym (length-map (t .insides) (λ i. frontOf (i .symbol)))) in
+      let backs : take (b .held) (b .backs) ≡ backsOf (t .insides) = front-keys 64 (backsOf (t .insides)) (backs-are b (kept .same)) (held-is b (kept .same) ∙ sym (length-map (t .insides) (λ i. backOf (i .symbol)))) in
+      looked ∙ (λ i. symbolAt (about i) (fronts i) (backs i))
+
+  there-seen : (f : Order → ℕ) → f noOrder ≡ f blank → f (getD (b .orders) at blank) ≡ f (thereOf (t .orders) (keyAt (numberOf (messageIn s .id)) (idsOf (t .orders))))
+  there-seen f none =
+      ap (λ (l : List Order). f (getD l at blank)) (orders-are b (kept .same))
+      ∙ past f none (t .orders) at
+      ∙ ap (λ (k : ℕ). f (getD (t .orders) k blank)) (spot ∙ ap spotOf order-seen)
+
+  pub seen-is : _≡_ {A = Seen} (record { live = b .live; order = order; shares = getD (b .orders) at blank .shares; price = getD (b .orders) at blank .price; held = b .held; inside = inside })
+      (seenOf t (messageIn s))
+  unfolding seenOf
+  seen-is i =
+      record { live = live-is b (kept .same) i; order = order-seen i; shares = there-seen (λ o. o .shares) refl i; price = there-seen (λ o. o .price) refl i; held = held-is b (kept .same) i; inside = inside-seen i }
+
+-- the look-up's place is one of the book's
+pub spot-within : (keys : List ℕ) (live key : ℕ) {order : Found} {at : ℕ} → live ≤ 256 → order ≡ keyAt key (take live keys) → at ≡ spotOf order → at < 256
+spot-within keys live key fits found spot =
+    let xs = take live keys in
+    let few : length xs ≤ live = simp length-take (omega arith) in
+    let h : spotOf (keyAt key xs) < 256 = spot-any (keyAt key xs) 256 (lit< tt) (λ e. let r = key-below key xs e in omega arith) in
+    rw (spot, found) h
+
+-- ---- what follows from the effect
+
+module _ {b : Book} {s : List ℕ} {key : ℕ} {topic : List ℕ} {e : Effect} (d : Decided b s key topic e) where
+  abbrev m : Message
+  m = messageIn s
+
+  tell : {e' : Effect} → e ≡ e' → Change (seenOf (view b) m) m e'
+  tell h = tells (seenOf (view b) m) m (sym (d .effect) ∙ h) .1
+
+  done : (number : ℕ) {e' : Effect} → e ≡ e' → rep (carried (view b) number m e') ≡ rep (applyOf (view b) number s)
+  unfolding applyOf
+  done number h = ap (λ (x : Effect). rep (carried (view b) number m x)) (sym h ∙ d .effect)
+
+  of-type : {k : ℕ} → typeOf m ≡ k → typeIn s ≡ k
+  of-type h = sym (type-kept (typeIn s) s) ∙ h
+
+  live-seen : seenOf (view b) m .live ≡ b .live
+  unfolding seenOf
+  live-seen = sym (live-is b (d .kept .same))
+
+  held-seen : seenOf (view b) m .held ≡ b .held
+  unfolding seenOf
+  held-seen = sym (held-is b (d .kept .same))
+
+  -- the place of an order that the message names
+  at-live : {place : ℕ} → AtOrder (seenOf (view b) m) place → place < b .live
+  unfolding seenOf
+  at-live a =
+      let r = key-below (numberOf (m .id)) (idsOf (view b .orders)) (a .there) in
+      let l : length (idsOf (view b .orders)) ≡ b .live = length-map (view b .orders) (λ o. o .id) ∙ sym (live-is b (d .kept .same)) in
+      subst (λ (x : ℕ). x < b .live) (sym (a .place)) (subst (λ (n : ℕ). spotOf (keyAt (numberOf (m .id)) (idsOf (view b .orders))) < n) l r)
+
+  -- Put
+  module _ (h : e ≡ Put) where
+    pub put-few : b .live < 256
+    put-few = rw live-seen at (tell h .few)
+
+    pub put-naming : Naming 55 s key
+    unfolding payloadOf fieldsOf messageOf layoutOf
+    put-naming =
+        let t = of-type (tell h .type) in
+        record { room = opened s refl 21 t refl (d .whole .enough); value = d .value ∙ ap (λ (k : ℕ). numberOf (fieldsOf k s .id)) t }
+
+    pub put-done : (number : ℕ) {made : Order} → made ≡ orderOf (fieldsOf 21 s)
+        → _≡_ {A = Book} (record { orders = set (b .orders) (b .live) made; keys = set (b .keys) (b .live) key; live = b .live + 1; insides = b .insides; fronts = b .fronts; backs = b .backs; held = b .held; code = b .code; faults = b .faults })
+        (rep (applyOf (view b) number s))
+    unfolding orderOf fieldsOf messageOf layoutOf
+    put-done number is =
+        let t : typeIn s ≡ 21 = of-type (tell h .type) in
+        let o : _ ≡ orderOf m = is ∙ ap (λ (k : ℕ). orderOf (fieldsOf k s)) (sym t) in
+        let first : numberOf (part s 7 14) ≡ orderOf (fieldsOf 21 s) .id = refl in
+        let k : key ≡ orderOf m .id = put-naming .value ∙ first ∙ ap (λ (j : ℕ). orderOf (fieldsOf j s) .id) (sym t) in
+        (λ i. record { orders = set (b .orders) (b .live) (o i); keys = set (b .keys) (b .live) (k i); live = b .live + 1; insides = b .insides; fronts = b .fronts; backs = b .backs; held = b .held; code = b .code; faults = b .faults })
+        ∙ put-rep b (d .kept .same) (orderOf m) put-few
+        ∙ done number h
+
+  pub replace-within : {place shares price : ℕ} → e ≡ Replace place shares price → place < b .live
+  replace-within h = at-live (tell h .0)
+
+  pub replace-done : (number : ℕ) {place shares price : ℕ} → e ≡ Replace place shares price
+      → _≡_ {A = Book} (record { orders = restored (b .orders) place shares price; keys = b .keys; live = b .live; insides = b .insides; fronts = b .fronts; backs = b .backs; held = b .held; code = b .code; faults = b .faults })
+      (rep (applyOf (view b) number s))
+  replace-done number {place} {shares} {price} h =
+      let small : place < length (b .orders) = omega (arith, replace-within h, d .kept .live, d .kept .orders) in
+      ap
+      (λ (l : List Order). record { orders = l; keys = b .keys; live = b .live; insides = b .insides; fronts = b .fronts; backs = b .backs; held = b .held; code = b .code; faults = b .faults })
+      (restored-is (b .orders) place shares price small)
+      ∙ replace-rep b (d .kept .same) place shares price (replace-within h)
+      ∙ done number h
+
+  pub remove-within : {place : ℕ} → e ≡ Remove place → place < b .live
+  remove-within h = at-live (tell h)
+
+  pub remove-done : (number : ℕ) {place : ℕ} {none : Order} → e ≡ Remove place → none ≡ noOrder
+      → _≡_ {A = Book} (record { orders = set (set (b .orders) place (getD (b .orders) (b .live - 1) blank)) (b .live - 1) none; keys = set (set (b .keys) place (getD (b .keys) (b .live - 1) 0)) (b .live - 1) 0; live = b .live - 1; insides = b .insides; fronts = b .fronts; backs = b .backs; held = b .held; code = b .code; faults = b .faults })
+      (rep (applyOf (view b) number s))
+  remove-done number h is = rw is (remove-rep b (d .kept .same) _ (remove-within h) (d .kept .live) ∙ done number h)
+
+  -- Renew and Enter
+  top-room : typeOf m ≡ 26 → 46 ≤ length s
+  unfolding payloadOf
+  top-room h = opened s refl 26 (of-type h) refl (d .whole .enough)
+
+  told-is : typeOf m ≡ 26 → {x : Inside} → x ≡ insideOf (fieldsOf 26 s) → insideOf m ≡ x
+  told-is h is = ap (λ (k : ℕ). insideOf (fieldsOf k s)) (of-type h) ∙ sym is
+
+  topic-told : typeOf m ≡ 26 → insideOf m .symbol ≡ topic
+  unfolding insideOf fieldsOf messageOf layoutOf
+  topic-told h =
+      let t = of-type h in
+      let top : insideOf (fieldsOf 26 s) .symbol ≡ topicOf (fieldsOf 26 s) = refl in
+      ap (λ (k : ℕ). insideOf (fieldsOf k s) .symbol) t ∙ top ∙ ap (λ (k : ℕ). topicOf (fieldsOf k s)) (sym t) ∙ sym (d .about)
+
+  pub renew-room : {place : ℕ} → e ≡ Renew place → 46 ≤ length s
+  renew-room h = top-room (tell h .type)
+
+  pub renew-within : {place : ℕ} → e ≡ Renew place → place < b .held
+  unfolding seenOf
+  renew-within h =
+      let a = tell h in
+      let r = symbol-below (topicOf m) (frontsOf (view b .insides)) (backsOf (view b .insides)) (a .there) in
+      let l : length (frontsOf (view b .insides)) ≡ b .held = length-map (view b .insides) (λ i. frontOf (i .symbol)) ∙ sym (held-is b (d .kept .same)) in
+      subst (λ (x : ℕ). x < b .held) (sym (a .place)) (subst (λ (n : ℕ). spotOf (symbolAt (topicOf m) (frontsOf (view b .insides)) (backsOf (view b .insides))) < n) l r)
+
+  -- the inside that is held at that place has the message's symbol
+  renewed : {place : ℕ} → e ≡ Renew place
+      → (frontOf (insideOf m .symbol) ≡ frontOf (getD (view b .insides) place noInside .symbol)) × (backOf (insideOf m .symbol) ≡ backOf (getD (view b .insides) place noInside .symbol))
+  unfolding seenOf
+  renewed h =
+      let a = tell h in
+      let xs = view b .insides in
+      let r = symbol-there (topicOf m) (frontsOf xs) (backsOf xs) (a .there) in
+      let same = topic-told (a .type) ∙ d .about in (
+        ap frontOf same ∙ sym (r .0) ∙ ap (λ (k : ℕ). getD (frontsOf xs) k 0) (sym (a .place)) ∙ List·getD-map (λ i. frontOf (i .symbol)) xs _ noInside,
+        ap backOf same ∙ sym (r .1) ∙ ap (λ (k : ℕ). getD (backsOf xs) k 0) (sym (a .place)) ∙ List·getD-map (λ i. backOf (i .symbol)) xs _ noInside,
+      )
+
+  pub renew-done : (number : ℕ) {place : ℕ} {x : Inside} → e ≡ Renew place → x ≡ insideOf (fieldsOf 26 s)
+      → _≡_ {A = Book} (record { orders = b .orders; keys = b .keys; live = b .live; insides = set (b .insides) place x; fronts = b .fronts; backs = b .backs; held = b .held; code = b .code; faults = b .faults })
+      (rep (applyOf (view b) number s))
+  renew-done number {place} h is =
+      ap
+      (λ (y : Inside). record { orders = b .orders; keys = b .keys; live = b .live; insides = set (b .insides) place y; fronts = b .fronts; backs = b .backs; held = b .held; code = b .code; faults = b .faults })
+      (sym (told-is (tell h .type) is))
+      ∙ renew-rep b (d .kept .same) place (insideOf m) (renew-within h) (renewed h .0) (renewed h .1)
+      ∙ done number h
+
+  pub enter-room : e ≡ Enter → 46 ≤ length s
+  enter-room h = top-room (tell h .type)
+
+  pub enter-few : e ≡ Enter → b .held < 64
+  enter-few h = rw held-seen at (tell h .few)
+
+  pub enter-done : (number : ℕ) {first last : ℕ} {x : Inside} → e ≡ Enter → x ≡ insideOf (fieldsOf 26 s) → first ≡ frontOf topic → last ≡ backOf topic
+      → _≡_ {A = Book} (record { orders = b .orders; keys = b .keys; live = b .live; insides = set (b .insides) (b .held) x; fronts = set (b .fronts) (b .held) first; backs = set (b .backs) (b .held) last; held = b .held + 1; code = b .code; faults = b .faults })
+      (rep (applyOf (view b) number s))
+  enter-done number h is f l =
+      let x = told-is (tell h .type) is in
+      let same = topic-told (tell h .type) in
+      (λ i. record { orders = b .orders; keys = b .keys; live = b .live; insides = set (b .insides) (b .held) (sym x i); fronts = set (b .fronts) (b .held) ((f ∙ ap frontOf (sym same)) i); backs = set (b .backs) (b .held) ((l ∙ ap backOf (sym same)) i); held = b .held + 1; code = b .code; faults = b .faults })
+      ∙ enter-rep b (d .kept .same) (insideOf m) (enter-few h)
+      ∙ done number h
+
+  -- Record, Unchanged and Fault
+  pub record-done : (number : ℕ) {code : ℕ} → e ≡ Record code
+      → _≡_ {A = Book} (record { orders = b .orders; keys = b .keys; live = b .live; insides = b .insides; fronts = b .fronts; backs = b .backs; held = b .held; code = code; faults = b .faults })
+      (rep (applyOf (view b) number s))
+  record-done number h = marked-rep b (d .kept .same) _ (b .faults) ∙ done number h
+
+  pub unchanged-done : (number : ℕ) → e ≡ Unchanged → b ≡ rep (applyOf (view b) number s)
+  unchanged-done number h = d .kept .same ∙ done number h
+
+  pub fault-done : (number : ℕ) {reason : ℕ} {more : Faults} → e ≡ Fault reason → more ≡ faulted (b .faults) number reason
+      → _≡_ {A = Book} (record { orders = b .orders; keys = b .keys; live = b .live; insides = b .insides; fronts = b .fronts; backs = b .backs; held = b .held; code = b .code; faults = more })
+      (rep (applyOf (view b) number s))
+  fault-done number h is = rw is (marked-rep b (d .kept .same) (b .code) _ ∙ done number h)

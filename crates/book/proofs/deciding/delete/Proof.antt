@@ -1,0 +1,18 @@
+-- The effect of an Order Delete.
+-- Assumes nothing.
+use mathlib.Core.Path.{_∙_}
+use Rattle.book.proofs.Arms.{delete-is}
+use borrow.Author.Needs.{needs}
+use Rattle.book.proofs.deciding.delete.Statement.{statement}
+use Rattle.book.proofs.deciding.delete.Tie as tie
+
+returns : tie.Need-returns
+returns c = c .deleted .ensures ∙ delete-is _ _ (c .before .before .before .pre .value) (c .before .named .ensures)
+
+pub delete-spec : {M : Type 1} → statement M
+delete-spec =
+    tie.close
+    (tie.spec
+    (λ c κs. search needs)
+    (λ c κs. search needs)
+    returns)

@@ -1,0 +1,21 @@
+-- The effect of an Execution with Price.
+-- Assumes nothing.
+use mathlib.Core.Path.{_∙_}
+use Rattle.book.proofs.Arms.{priced-is}
+use borrow.Author.Needs.{needs}
+use Rattle.book.proofs.deciding.priced.Statement.{statement}
+use Rattle.book.proofs.deciding.priced.Tie as tie
+
+returns : tie.Need-returns
+returns c = c .executed .ensures ∙ priced-is _ _ (c .before .before .before .before .before .before .pre .value) (c .before .good-update .ensures) (c .before .before .before .before .u32-at .ensures) (c .before .before .before .u32-at2 .ensures) (c .before .before .u64-at .ensures)
+
+pub priced-spec : {M : Type 1} → statement M
+priced-spec =
+    tie.close
+    (tie.spec
+    (λ c κs. search needs)
+    (λ c κs. search needs)
+    (λ c κs. search needs)
+    (λ c κs. search needs)
+    (λ c κs. search needs)
+    returns)

@@ -1,0 +1,19 @@
+-- The effect of a Trading Session.
+-- Assumes nothing.
+use mathlib.Core.Path.{_∙_}
+use Rattle.book.proofs.Arms.{session-is}
+use borrow.Author.Needs.{needs}
+use Rattle.book.proofs.deciding.session.Statement.{statement}
+use Rattle.book.proofs.deciding.session.Tie as tie
+
+returns : tie.Need-returns
+returns c = c .kept .ensures ∙ session-is _ _ (c .before .good-session .ensures) (c .before .before .u8-at .ensures)
+
+pub session-spec : {M : Type 1} → statement M
+session-spec =
+    tie.close
+    (tie.spec
+    (λ c κs. search needs)
+    (λ c κs. search needs)
+    (λ c κs. search needs)
+    returns)

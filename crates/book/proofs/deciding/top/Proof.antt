@@ -1,0 +1,22 @@
+-- The effect of a Top of Book.
+-- Assumes nothing.
+use mathlib.Core.Path.{_∙_}
+use Rattle.book.proofs.Arms.{top-is}
+use borrow.Author.Needs.{needs}
+use Rattle.book.proofs.deciding.top.Statement.{statement}
+use Rattle.book.proofs.deciding.top.Tie as tie
+
+returns : tie.Need-returns
+returns c = c .shown .ensures ∙ top-is _ _ (c .before .good-top .ensures) (c .before .before .before .before .before .text14-at .ensures) (c .before .before .before .before .u64-at .ensures) (c .before .before .before .u64-at2 .ensures) (c .before .before .u8-at .ensures)
+
+pub top-spec : {M : Type 1} → statement M
+top-spec =
+    tie.close
+    (tie.spec
+    (λ c κs. search needs)
+    (λ c κs. search needs)
+    (λ c κs. search needs)
+    (λ c κs. search needs)
+    (λ c κs. search needs)
+    (λ c κs. search needs)
+    returns)

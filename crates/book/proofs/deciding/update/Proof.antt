@@ -1,0 +1,20 @@
+-- The effect of an Order Update.
+-- Assumes nothing.
+use mathlib.Core.Path.{_∙_}
+use Rattle.book.proofs.Arms.{update-is}
+use borrow.Author.Needs.{needs}
+use Rattle.book.proofs.deciding.update.Statement.{statement}
+use Rattle.book.proofs.deciding.update.Tie as tie
+
+returns : tie.Need-returns
+returns c = c .updated .ensures ∙ update-is _ _ (c .before .before .before .before .before .pre .value) (c .before .good-update .ensures) (c .before .before .before .u32-at .ensures) (c .before .before .u64-at .ensures)
+
+pub update-spec : {M : Type 1} → statement M
+update-spec =
+    tie.close
+    (tie.spec
+    (λ c κs. search needs)
+    (λ c κs. search needs)
+    (λ c κs. search needs)
+    (λ c κs. search needs)
+    returns)

@@ -1,0 +1,25 @@
+-- The conjunction of its rules.
+-- Assumes nothing.
+use borrow.Author.Needs.{needs}
+use Rattle.book.proofs.judging.good_add.Statement.{statement}
+use Rattle.book.proofs.judging.good_add.Tie as tie
+
+returns : tie.Need-returns
+returns c = cc
+
+pub good-add-spec : {M : Type 1} → statement M
+good-add-spec =
+    tie.close
+    (tie.spec
+    (λ c κs. search needs)
+    (λ c κs. search needs)
+    (λ c κs. search needs)
+    (λ c κs. search needs)
+    (λ c κs. search needs)
+    (λ c κs. search needs)
+    (λ c κs. search needs)
+    (λ c κs. search needs)
+    (λ c κs. search needs)
+    (λ c κs. search needs)
+    (λ c κs. search needs)
+    returns)

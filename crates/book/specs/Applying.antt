@@ -1,0 +1,168 @@
+-- Document 01, "Applying a message": the fault that is given, the effect, and the tables behind it.
+-- Assumes nothing.
+use mathlib.Core.Path.{_≡_}
+use mathlib.Core.Bool.{Bool, false, cond, not, _&&_}
+use mathlib.Core.List.{List, [], _∷_, _++_}
+use Prim.Native.Nat.{ℕ, _+_, _-_, _≤_}
+use lib.Dec.{eqb, leb, ltb}
+use lib.ListN.{length, getD, take, set}
+use Rattle.wire.specs.Choice.{firstOf, listedAt}
+use Rattle.wire.specs.Layout.{numberIn, textIn}
+use Rattle.wire.specs.Number.{part}
+use Rattle.fields.specs.Id.{numberOf}
+use Rattle.message.specs.Layouts.{sizeIn, typeIn}
+use Rattle.message.specs.Row.{noText, fieldsOf, typeOf, rowOf}
+use Rattle.message.specs.Rules.{goodMessage}
+use Rattle.message.specs.Table.{payloadOf, tooShort}
+use Rattle.message.specs.declared.kinds.Message.{Message}
+use Rattle.book.specs.Lookup.{isAt, spotOf, keyAt, symbolAt}
+use Rattle.book.specs.Tables.{Tables, blank, idsOf, frontsOf, backsOf}
+use Rattle.book.specs.declared.lookup.Found.{Found}
+use Rattle.book.specs.declared.tables.Order.{Order}
+use Rattle.book.specs.declared.tables.Inside.{Inside}
+use Rattle.book.specs.declared.tables.Faults.{Faults}
+use Rattle.book.specs.declared.deciding.Seen.{Seen}
+use Rattle.book.specs.declared.deciding.Effect.{Effect}
+use Rattle.book.specs.declared.deciding.Effect.the-variants.{Put, Replace, Remove, Renew, Enter, Record, Unchanged, Fault}
+
+-- bytes that are one whole message: 3 to 128, as many as MessageSize says, and not too short for a listed type
+pub record Whole (s : List ℕ) : Type 0 where
+  pub least : 3 ≤ length s
+  pub most : length s ≤ 128
+  pub told : sizeIn s ≡ length s
+  pub enough : tooShort (typeIn s) (length s) ≡ false
+
+abbrev pub messageIn : List ℕ → Message
+messageIn s = fieldsOf (typeIn s) s
+
+-- a whole message with the value of the id that it names
+pub record Keyed (s : List ℕ) (key : ℕ) : Type 0 where
+  pub whole : Whole s
+  pub value : key ≡ numberOf (messageIn s .id)
+
+-- at least n bytes that name an order, whose id stands behind the time, and its value
+pub record Naming (n : ℕ) (s : List ℕ) (key : ℕ) : Type 0 where
+  pub room : n ≤ length s
+  pub value : key ≡ numberOf (part s 7 14)
+
+-- what the tables hold of what a message names: the order of its id, and for a Top of Book the inside of its symbol
+abbrev pub topicOf : Message → List ℕ
+topicOf m = cond (eqb (typeOf m) 26) (m .symbol) noText
+
+abbrev pub thereOf : List Order → Found → Order
+thereOf orders found = getD orders (spotOf found) blank
+
+abbrev pub orderSeen : Tables → Message → Found
+orderSeen t m = keyAt (numberOf (m .id)) (idsOf (t .orders))
+
+abbrev pub seenWith : ℕ → Found → Order → ℕ → Found → Seen
+seenWith live order there held inside =
+    record { live = live; order = order; shares = there .shares; price = there .price; held = held; inside = inside }
+
+unfoldable pub seenOf : Tables → Message → Seen
+seenOf t m =
+    seenWith (length (t .orders)) (orderSeen t m) (thereOf (t .orders) (orderSeen t m)) (length (t .insides))
+    (symbolAt (topicOf m) (frontsOf (t .insides)) (backsOf (t .insides)))
+
+-- 22 to 25 name an order; 24 and 25 execute it. Executed and remaining are the fields 2 and 3 of both
+abbrev pub names : ℕ → Bool
+names type = leb 22 type && leb type 25
+
+abbrev pub executes : ℕ → Bool
+executes type = leb 24 type && leb type 25
+
+-- "The lowest reason that holds is given": each fault, and when
+abbrev pub faults : Seen → Message → List (Bool × Effect)
+faults seen m =
+    let type = typeOf m in
+    let executed = numberIn (rowOf m) 2 in
+    let remaining = numberIn (rowOf m) 3 in
+    (eqb (payloadOf type) 255, Fault 1)
+    ∷ (not (goodMessage m), Fault 2)
+    ∷ (eqb type 21 && isAt (seen .order), Fault 3)
+    ∷ (eqb type 21 && leb 256 (seen .live), Fault 4)
+    ∷ (names type && not (isAt (seen .order)), Fault 5)
+    ∷ (executes type && ltb (seen .shares) executed, Fault 6)
+    ∷ (executes type && not (eqb remaining (seen .shares - executed)), Fault 7)
+    ∷ (eqb type 26 && (not (isAt (seen .inside)) && leb 64 (seen .held)), Fault 8)
+    ∷ []
+
+-- 24 and 25 subtract executed, and at zero the order leaves
+abbrev pub executionOf : Seen → ℕ → Effect
+executionOf seen executed =
+    cond (eqb (seen .shares - executed) 0)
+    (Remove (spotOf (seen .order)))
+    (Replace (spotOf (seen .order)) (seen .shares - executed) (seen .price))
+
+-- what a message does where no fault holds; 27, 28, 9, 11 and 12 change nothing
+abbrev pub changeOf : Seen → Message → Effect
+changeOf seen m =
+    let n = numberIn (rowOf m) in
+    listedAt (typeOf m)
+    ((20, Record (n 1))
+    ∷ (21, Put)
+    ∷ (22, Replace (spotOf (seen .order)) (n 2) (n 3))
+    ∷ (23, Remove (spotOf (seen .order)))
+    ∷ (24, executionOf seen (n 2))
+    ∷ (25, executionOf seen (n 2))
+    ∷ (26, cond (isAt (seen .inside)) (Renew (spotOf (seen .inside))) Enter)
+    ∷ [])
+    Unchanged
+
+unfoldable pub effectOf : Seen → Message → Effect
+effectOf seen m = firstOf (faults seen m) (changeOf seen m)
+
+-- the order that an Add makes
+unfoldable pub orderOf : Message → Order
+orderOf m =
+    let n = numberIn (rowOf m) in
+    let t = textIn (rowOf m) in
+    record { id = numberOf (t 1); side = n 2; shares = n 3; symbol = t 4; price = n 5; firm = t 6; unsolicited = n 7 }
+
+-- the inside that a Top of Book tells, all seven fields
+unfoldable pub insideOf : Message → Inside
+insideOf m =
+    let n = numberIn (rowOf m) in
+    record { time = n 0; symbol = textIn (rowOf m) 1; ask = n 2; askvolume = n 3; bid = n 4; bidvolume = n 5; unsolicited = n 6 }
+
+-- an order with other shares and price
+abbrev pub repriced : Order → ℕ → ℕ → Order
+repriced o shares price =
+    record { id = o .id; price = price; shares = shares; firm = o .firm; symbol = o .symbol; side = o .side; unsolicited = o .unsolicited }
+
+-- an order leaves: the last one takes its place
+unfoldable pub without : {A : Type 0} → A → ℕ → List A → List A
+without blank place xs = take (length xs - 1) (set xs place (getD xs (length xs - 1) blank))
+
+-- the first fault's number and reason are kept, and every fault is counted
+unfoldable pub faulted : Faults → ℕ → ℕ → Faults
+faulted f number reason =
+    cond (eqb (f .count) 0)
+    (record { number = number; count = 1; reason = reason })
+    (record { number = f .number; count = f .count + 1; reason = f .reason })
+
+abbrev pub withOrders : Tables → List Order → Tables
+withOrders t orders = record { orders = orders; insides = t .insides; code = t .code; faults = t .faults }
+
+abbrev pub withInsides : Tables → List Inside → Tables
+withInsides t insides = record { orders = t .orders; insides = insides; code = t .code; faults = t .faults }
+
+-- the tables behind an effect of the message of a number
+abbrev pub carried : Tables → ℕ → Message → Effect → Tables
+carried t number m Put = withOrders t (t .orders ++ (orderOf m ∷ []))
+carried t number m (Replace place shares price) =
+    withOrders t (set (t .orders) place (repriced (getD (t .orders) place blank) shares price))
+carried t number m (Remove place) = withOrders t (without blank place (t .orders))
+carried t number m (Renew place) = withInsides t (set (t .insides) place (insideOf m))
+carried t number m Enter = withInsides t (t .insides ++ (insideOf m ∷ []))
+carried t number m (Record code) = record { orders = t .orders; insides = t .insides; code = code; faults = t .faults }
+carried t number m Unchanged = t
+carried t number m (Fault reason) =
+    record { orders = t .orders; insides = t .insides; code = t .code; faults = faulted (t .faults) number reason }
+
+-- the effect of a message on the tables, and the tables behind it
+abbrev pub effectIn : Tables → List ℕ → Effect
+effectIn t s = effectOf (seenOf t (messageIn s)) (messageIn s)
+
+unfoldable pub applyOf : Tables → ℕ → List ℕ → Tables
+applyOf t number s = carried t number (messageIn s) (effectIn t s)

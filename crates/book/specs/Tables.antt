@@ -1,0 +1,70 @@
+-- The tables that document 01 speaks of, and how a book holds them.
+-- Assumes nothing.
+use mathlib.Core.List.{List, [], _++_, map}
+use Prim.Native.Nat.{ℕ, _-_}
+use lib.ListN.{length, take, replicate}
+use Rattle.book.specs.Lookup.{frontOf, backOf}
+use Rattle.book.specs.declared.tables.Order.{Order}
+use Rattle.book.specs.declared.tables.Inside.{Inside}
+use Rattle.book.specs.declared.tables.Faults.{Faults}
+use Rattle.book.specs.declared.tables.Book.{Book}
+
+-- what a session's tables mean: the live orders in the order of their places, the insides, the code, the faults
+pub record Tables : Type 0 where
+  pub orders : List Order
+  pub insides : List Inside
+  pub code : ℕ
+  pub faults : Faults
+
+abbrev pub noFaults : Faults
+noFaults = record { number = 0; count = 0; reason = 0 }
+
+-- an opening empties everything; before the first Trading Session the code is 0
+abbrev pub fresh : Tables
+fresh = record { orders = []; insides = []; code = 0; faults = noFaults }
+
+-- what a place holds that is not used
+abbrev pub noOrder : Order
+noOrder = record { id = 0; price = 0; shares = 0; firm = replicate 4 0; symbol = replicate 14 0; side = 0; unsolicited = 0 }
+
+abbrev pub noInside : Inside
+noInside = record { ask = 0; bid = 0; time = 0; askvolume = 0; bidvolume = 0; symbol = replicate 14 0; unsolicited = 0 }
+
+-- what is read behind the last order, and behind the last inside
+abbrev pub blank : Order
+blank = record { id = 0; price = 0; shares = 0; firm = []; symbol = []; side = 0; unsolicited = 0 }
+
+abbrev pub gone : Inside
+gone = record { ask = 0; bid = 0; time = 0; askvolume = 0; bidvolume = 0; symbol = []; unsolicited = 0 }
+
+-- n places: what there is, then places that are not used
+unfoldable pub places {ℓ} : {A : Type ℓ} → ℕ → A → List A → List A
+places n dead xs = xs ++ replicate (n - length xs) dead
+
+abbrev pub idsOf : List Order → List ℕ
+idsOf = map (λ o. o .id)
+
+abbrev pub frontsOf : List Inside → List ℕ
+frontsOf = map (λ i. frontOf (i .symbol))
+
+abbrev pub backsOf : List Inside → List ℕ
+backsOf = map (λ i. backOf (i .symbol))
+
+-- the one book that holds given tables
+abbrev pub rep : Tables → Book
+rep t =
+    record {
+      orders = places 256 noOrder (t .orders);
+      keys = places 256 0 (idsOf (t .orders));
+      live = length (t .orders);
+      insides = places 64 noInside (t .insides);
+      fronts = places 64 0 (frontsOf (t .insides));
+      backs = places 64 0 (backsOf (t .insides));
+      held = length (t .insides);
+      code = t .code;
+      faults = t .faults;
+    }
+
+-- the tables that a book holds
+abbrev pub view : Book → Tables
+view b = record { orders = take (b .live) (b .orders); insides = take (b .held) (b .insides); code = b .code; faults = b .faults }

@@ -1,0 +1,2 @@
+-- Laws of `session`'s definitions.
+pub mod Accepted

@@ -1,0 +1,1 @@
+// The session: what taking a packet does, as an instance of `merge`.
