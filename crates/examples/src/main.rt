@@ -1,5 +1,6 @@
 // The published example, document 01's worked examples, and a table of cases, one line each:
 // what is lent, and what the library answers.
+mod books;
 mod headers;
 mod ids;
 mod messages;
@@ -14,4 +15,5 @@ fn main() {
     sweeps::run();
     messages::written();
     writes::headers();
+    books::run();
 }

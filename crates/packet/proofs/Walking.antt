@@ -66,7 +66,9 @@ or-right false b h = h
 -- a message that is not at fault has its header, and lies within the packet
 pub record Lies (s : List ℕ) (at size : ℕ) : Type 0 where
   pub least : 3 ≤ size
+  pub most : size ≤ 128
   pub within : at + size ≤ length s
+  pub enough : tooShort (typeAt s at) size ≡ false
 
 pub lies : (s : List ℕ) (at : ℕ) → brokenAt s at ≡ false → Lies s at (sizeAt s at)
 unfolding brokenAt
@@ -79,7 +81,9 @@ lies s at h =
     let h₂ : sized ≡ false = or-left sized (ltb 128 (sizeAt s at)) h₃ in
     record {
       least = ltb-false (sizeAt s at) 3 (or-right (ltb (length s) (at + 3)) (ltb (sizeAt s at) 3) h₂);
+      most = ltb-false 128 (sizeAt s at) (or-right sized (ltb 128 (sizeAt s at)) h₃);
       within = ltb-false (length s) (at + sizeAt s at) (or-right bounded (ltb (length s) (at + sizeAt s at)) h₄);
+      enough = or-right placed (tooShort (typeAt s at) (sizeAt s at)) h;
     }
 
 -- a step is 0 exactly at a fault

@@ -1,2 +1,3 @@
 -- Laws of `session`'s definitions.
 pub mod Accepted
+pub mod Whole

@@ -1,0 +1,2 @@
+-- What the examples' loops keep.
+mod Replays
