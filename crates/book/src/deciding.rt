@@ -1,11 +1,8 @@
 // Parts: what a message does, decided on small values before anything is written.
 use crate::judging::added;
-use crate::judging::both;
 use crate::judging::deleted;
 use crate::judging::executed;
 use crate::judging::good_add;
-use crate::judging::good_top;
-use crate::judging::good_trade;
 use crate::judging::good_update;
 use crate::judging::kept;
 use crate::judging::named;
@@ -15,6 +12,9 @@ use crate::lookup::Found;
 use crate::tables::Order;
 use fields::rules::good_quantity;
 use fields::rules::good_session;
+use message::rules::both;
+use message::rules::good_top;
+use message::rules::good_trade;
 ghost use mathlib.Core.Path.{_≡_};
 ghost use Prim.Native.Nat.{_≤_};
 ghost use lib.ListN.{length};
@@ -148,7 +148,7 @@ fn trade(bytes: &[u8], seen: Seen) -> Effect
     let quantity = wire::u32_at(bytes, 8);
     let symbol = wire::text14_at(bytes, 12);
     let price = wire::u64_at(bytes, 26);
-    let good = good_trade(side, quantity, symbol, price);
+    let good = good_trade(symbol, side, quantity, price);
     kept(good, Effect::Unchanged)
 }
 

@@ -4,13 +4,12 @@ use crate::deciding::Seen;
 use crate::lookup::Found;
 use crate::lookup::NONE;
 use crate::tables::Book;
-use fields::rules::good_inside_price;
 use fields::rules::good_price;
 use fields::rules::good_quantity;
 use fields::rules::good_side;
 use fields::rules::good_symbol;
-use fields::rules::good_trade_side;
 use fields::rules::good_unsolicited;
+use message::rules::both;
 ghost use mathlib.Core.Path.{_≡_};
 ghost use mathlib.Core.Bool.{cond, not, _&&_};
 ghost use mathlib.Core.List.{[], _∷_};
@@ -18,17 +17,11 @@ ghost use Prim.Native.Nat.{_-_};
 ghost use lib.Dec.{eqb, leb, ltb};
 ghost use Rattle.wire.specs.Choice.{firstOf};
 ghost use Rattle.fields.specs.Id.{noValue};
-ghost use Rattle.fields.specs.Rules.{goodSymbol, goodSide, goodTradeSide, goodQuantity, goodPrice, goodInsidePrice, goodUnsolicited};
+ghost use Rattle.fields.specs.Rules.{goodSymbol, goodSide, goodQuantity, goodPrice, goodUnsolicited};
 ghost use Rattle.book.specs.Lookup.{isAt, spotOf};
 ghost use Rattle.book.specs.Applying.{executionOf};
 
-// Both, each worked out: the code stays straight.
-pub fn both(a: bool, b: bool) -> bool
-    ensures { λ r. ⌜ r ≡ (a && b) ⌝ }
-{
-    if a { b } else { false }
-}
-
+// The id keeps its rule, by its value.
 pub fn named(key: u64) -> bool
     ensures { λ r. ⌜ r ≡ not (eqb key noValue) ⌝ }
 {
@@ -150,20 +143,4 @@ pub fn good_add(
     let about = both(sized, good_symbol(symbol));
     let priced = both(about, good_price(price));
     both(priced, good_unsolicited(unsolicited))
-}
-
-pub fn good_top(symbol: [u8; 14], ask: u64, bid: u64, unsolicited: u8) -> bool
-    ensures { λ r. ⌜ r ≡ (goodSymbol symbol && goodInsidePrice ask && goodInsidePrice bid && goodUnsolicited unsolicited) ⌝ }
-{
-    let asked = both(good_symbol(symbol), good_inside_price(ask));
-    let bidden = both(asked, good_inside_price(bid));
-    both(bidden, good_unsolicited(unsolicited))
-}
-
-pub fn good_trade(side: u8, quantity: u32, symbol: [u8; 14], price: u64) -> bool
-    ensures { λ r. ⌜ r ≡ (goodTradeSide side && goodQuantity quantity && goodSymbol symbol && goodPrice price) ⌝ }
-{
-    let sized = both(good_trade_side(side), good_quantity(quantity));
-    let about = both(sized, good_symbol(symbol));
-    both(about, good_price(price))
 }

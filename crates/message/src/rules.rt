@@ -1,4 +1,4 @@
-// The field rules of a whole message.
+// The field rules of a whole message. These are parts.
 ghost use mathlib.Core.Path.{_≡_};
 ghost use mathlib.Core.Bool.{_&&_};
 ghost use Rattle.fields.specs.Id.{goodId};
@@ -18,7 +18,7 @@ use fields::rules::good_trade_side;
 use fields::rules::good_unsolicited;
 
 // Both, each worked out: the code stays straight.
-fn both(a: bool, b: bool) -> bool
+pub fn both(a: bool, b: bool) -> bool
     ensures { λ r. ⌜ r ≡ (a && b) ⌝ }
 {
     if a { b } else { false }
@@ -64,7 +64,7 @@ fn good_execution(id: [u8; 14], executed: u32, terms: Terms) -> bool
     both(sized, good_terms(terms))
 }
 
-fn good_top(symbol: [u8; 14], ask: u64, bid: u64, unsolicited: u8) -> bool
+pub fn good_top(symbol: [u8; 14], ask: u64, bid: u64, unsolicited: u8) -> bool
     ensures { λ r. ⌜ r ≡ (goodSymbol symbol && goodInsidePrice ask && goodInsidePrice bid && goodUnsolicited unsolicited) ⌝ }
 {
     let asked = both(good_symbol(symbol), good_inside_price(ask));
@@ -72,7 +72,7 @@ fn good_top(symbol: [u8; 14], ask: u64, bid: u64, unsolicited: u8) -> bool
     both(bidden, good_unsolicited(unsolicited))
 }
 
-fn good_trade(symbol: [u8; 14], side: u8, quantity: u32, price: u64) -> bool
+pub fn good_trade(symbol: [u8; 14], side: u8, quantity: u32, price: u64) -> bool
     ensures { λ r. ⌜ r ≡ (goodTradeSide side && goodQuantity quantity && goodSymbol symbol && goodPrice price) ⌝ }
 {
     let sized = both(good_trade_side(side), good_quantity(quantity));
@@ -80,7 +80,7 @@ fn good_trade(symbol: [u8; 14], side: u8, quantity: u32, price: u64) -> bool
     both(about, good_price(price))
 }
 
-// A part: no field rule is broken.
+// No field rule is broken.
 pub fn good(message: Message) -> bool
     ensures { λ r. ⌜ r ≡ goodMessage message ⌝ }
 {

@@ -56,7 +56,7 @@ passes (x ∷ xs) d n h =
     pass-step (x .0) (x .1) (decided xs) (firstOf xs d) d (both-left first (numbered xs) n) h
     (passes xs d (both-right first (numbered xs) n))
 
-header-numbered : (s : List ℕ) → numbered (headerTests s) ≡ true
+pub header-numbered : (s : List ℕ) → numbered (headerTests s) ≡ true
 unfolding headerTests flagTests
 header-numbered s = refl
 

@@ -1,27 +1,27 @@
 -- What an accepted packet is: no test applied, so its numbers lie within the window. Demand 3 for the overnight feed.
 -- Assumes nothing.
 use mathlib.Core.Path.{_≡_, refl, ap, _∙_, sym, subst}
-use mathlib.Core.Bool.{Bool, true, false, cond, not, _&&_, true≢false}
+use mathlib.Core.Bool.{Bool, true, false, not, _&&_}
 use mathlib.Core.List.{List, [], _∷_, _++_, map}
 use mathlib.Core.Option.{Option, none, some}
-use Prim.Native.Nat.{ℕ, zero, suc, _+_, _-_, _≤_, _<_}
+use Prim.Native.Nat.{ℕ, zero, suc, _+_, _≤_, _<_}
 use native.Mathlib.Omega.{arith}
 use borrow.Author.Tests.{eqb-true, eqb-false, leb-false, lt-leb}
 use lib.Dec.{eqb, leb}
 use lib.ListN.{length, length-map}
 use Rattle.wire.specs.Number.{Bytes}
 use Rattle.wire.proofs.Place.{getD-small}
-use Rattle.merge.specs.Session.{Feed, Packet, Session, Channel, packet, heartbeat, endOf, opened, takeAll, takeOne}
+use Rattle.merge.specs.Session.{Feed, Packet, Session, packet, endOf, opened, takeAll, takeOne}
 use Rattle.merge.specs.History.{accepted}
 use Rattle.merge.specs.Promise.{Demand3, Fits, Judged, Rule}
 use Rattle.merge.proofs.Demand3.{demand3, take-past}
 use Rattle.merge.proofs.Window.{fits-end, fits-heartbeat}
 use Rattle.packet.specs.Header as header
-use Rattle.packet.specs.Header.{Test, decided, flagTests, headerIn, headerTests}
+use Rattle.packet.specs.Header.{Test, decided, headerIn, headerTests}
 use Rattle.packet.specs.Judging.{bodyTests, lastOf, packetTests, unlessHeartbeat}
 use Rattle.packet.specs.Walk.{framesFrom, sizeAt, walkFrom}
 use Rattle.packet.specs.declared.walk.Walked.{Walked}
-use Rattle.packet.proofs.Judgements.{decides, joined, numbered, passes}
+use Rattle.packet.proofs.Judgements.{decides, header-numbered, joined, numbered, passes}
 use Rattle.session.specs.Taking.{bytesAt, channel, framesIn, judge, nine, packetIn, takeTests, ten, waitTests}
 
 -- no test has the number 0
@@ -32,10 +32,6 @@ on false b c h f = h
 numbered-append : (xs ys : List Test) → numbered xs ≡ true → numbered ys ≡ true → numbered (xs ++ ys) ≡ true
 numbered-append [] ys h g = g
 numbered-append (x ∷ xs) ys h g = on (not (eqb (x .1 .0) 0)) (numbered xs) (numbered (xs ++ ys)) h (λ n. numbered-append xs ys n g)
-
-header-numbered : (s : List ℕ) → numbered (headerTests s) ≡ true
-unfolding headerTests flagTests
-header-numbered s = refl
 
 body-numbered : (b : Bool) (w : Walked) (seq messages : ℕ) → numbered (unlessHeartbeat b (bodyTests w seq messages)) ≡ true
 unfolding bodyTests
