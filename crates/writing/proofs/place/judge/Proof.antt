@@ -1,4 +1,4 @@
--- `message::judge` meets its contract: each way out is the first test that applies.
+-- `writing::judge` meets its contract: each way out is the first test that applies.
 -- Assumes nothing.
 use mathlib.Core.Path.{_∙_, sym}
 use Rattle.writing.proofs.Writing.{unwritten, broken, past, short, fits}

@@ -1,4 +1,4 @@
--- `message::kind_of` answers by the kind.
+-- `writing::kind_of` answers by the kind.
 -- Assumes nothing.
 use mathlib.Core.Path.{refl}
 use Rattle.writing.proofs.ByKind.{kind-type}

@@ -1,4 +1,4 @@
--- `message::size_of` answers by what the table has.
+-- `writing::size_of` answers by what the table has.
 -- Assumes nothing.
 use mathlib.Core.Path.{_∙_, ap}
 use Prim.Native.Nat.{_+_}

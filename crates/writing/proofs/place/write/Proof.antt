@@ -1,4 +1,4 @@
--- `message::write` meets its contract: a refusal leaves the buffer, a count has put the header and the fields.
+-- `writing::write` meets its contract: a refusal leaves the buffer, a count has put the header and the fields.
 -- Assumes nothing.
 use mathlib.Core.Path.{_∙_, sym}
 use native.Mathlib.Omega.{arith}

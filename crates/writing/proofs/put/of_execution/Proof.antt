@@ -1,4 +1,4 @@
--- `message::of_execution` puts the row of its terms.
+-- `writing::of_execution` puts the row of its terms.
 -- Assumes nothing.
 use Rattle.message.specs.Layouts.{layoutOf}
 use Rattle.writing.proofs.ByKind.{terms-put, terms-room}

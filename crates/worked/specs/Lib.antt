@@ -1,0 +1,2 @@
+-- The worked examples.
+pub mod Examples

@@ -1,0 +1,2 @@
+// Document 01's worked examples P1 to P12: one table (specs/Examples.antt) under one statement
+// (proofs/Hold.antt), which the checker computes. No code.
