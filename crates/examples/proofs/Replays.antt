@@ -16,7 +16,7 @@ use Rattle.book.specs.Tables.{fresh, rep, view}
 use Rattle.book.specs.declared.tables.Book.{Book}
 use Rattle.book.proofs.Keeping.{apply-kept, fresh-kept}
 use Rattle.book.proofs.Laws.{counted-next}
-use Rattle.session.proofs.Whole.{whole-part}
+use Rattle.taking.proofs.Whole.{whole-part}
 
 pub record Going (bytes sizes : List ℕ) (book : Book) (at number : ℕ) : Type 0 where
   pub table : sizes ≡ payloadTable

@@ -1,3 +1,5 @@
 -- Laws of `session`'s definitions.
-pub mod Accepted
-pub mod Whole
+pub mod Frames
+pub mod States
+pub mod Runs
+pub mod Calls

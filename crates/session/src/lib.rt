@@ -1,1 +1,7 @@
-// The session: what taking a packet does, as an instance of `merge`.
+// The session: a fresh one for an opening number, taking packets, asking for what was lost, and the questions.
+
+pub mod asking;
+pub mod packets;
+pub mod running;
+pub mod state;
+pub mod turning;

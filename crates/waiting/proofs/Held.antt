@@ -88,7 +88,7 @@ pub with-other : (waits : ℕ → Option (List ℕ)) (i : ℕ) (o : Option (List
 unfolding with
 with-other waits i o k h = simp (ne-eqb k i h)
 
-same-places : (one other : ℕ → Option (List ℕ)) (p n : ℕ) → ((k : ℕ) → p ≤ k → k < p + n → one k ≡ other k) → placesFrom one p n ≡ placesFrom other p n
+pub same-places : (one other : ℕ → Option (List ℕ)) (p n : ℕ) → ((k : ℕ) → p ≤ k → k < p + n → one k ≡ other k) → placesFrom one p n ≡ placesFrom other p n
 unfolding placesFrom
 same-places one other p zero h = refl
 same-places one other p (suc n) h =

@@ -16,7 +16,7 @@ use Rattle.message.specs.Table.{payloadOf}
 use Rattle.packet.specs.Header.{flagTests, headerTests}
 use Rattle.packet.specs.Judging.{bodyTests, packetTests}
 use Rattle.packet.specs.Walk.{brokenAt, framesFrom, walkFrom}
-use Rattle.session.specs.Taking.{differFrom, judge, packetIn, takeTests}
+use Rattle.taking.specs.Taking.{differFrom, judge, packetIn, takeTests}
 use Rattle.waiting.specs.Runs.{requestsOf, runsFrom}
 use Rattle.waiting.specs.Window.{agreeing}
 use Rattle.worked.specs.Examples.{all, examples}

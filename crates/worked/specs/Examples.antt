@@ -20,7 +20,7 @@ use Rattle.merge.specs.Session.{Feed, Session, opened, takeAll}
 use Rattle.waiting.specs.Runs.{limitOf, requestsOf, runsOf}
 use Rattle.book.specs.Applying.{applyOf}
 use Rattle.book.specs.Tables.{Tables, blank, fresh}
-use Rattle.session.specs.Taking.{channel, takeTests}
+use Rattle.taking.specs.Taking.{channel, takeTests}
 
 -- ---- comparing an answer with what it is to be
 

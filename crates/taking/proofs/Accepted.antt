@@ -22,7 +22,7 @@ use Rattle.packet.specs.Judging.{bodyTests, lastOf, packetTests, unlessHeartbea
 use Rattle.packet.specs.Walk.{framesFrom, sizeAt, walkFrom}
 use Rattle.packet.specs.declared.walk.Walked.{Walked}
 use Rattle.packet.proofs.Judgements.{decides, header-numbered, joined, numbered, passes}
-use Rattle.session.specs.Taking.{bytesAt, channel, framesIn, judge, nine, packetIn, takeTests, ten, waitTests}
+use Rattle.taking.specs.Taking.{bytesAt, channel, framesIn, judge, nine, packetIn, takeTests, ten, waitTests}
 
 -- no test has the number 0
 on : (a b c : Bool) → (a && b) ≡ true → (b ≡ true → c ≡ true) → (a && c) ≡ true
@@ -38,12 +38,12 @@ unfolding bodyTests
 body-numbered true w seq messages = refl
 body-numbered false w seq messages = refl
 
-packet-numbered : (s : List ℕ) → numbered (packetTests s) ≡ true
+pub packet-numbered : (s : List ℕ) → numbered (packetTests s) ≡ true
 unfolding packetTests
 packet-numbered s = numbered-append (headerTests s) _ (header-numbered s) (body-numbered (header.heartbeat (headerIn s .flag)) (walkFrom (headerIn s .messages) 12 s) (headerIn s .seq) (headerIn s .messages))
 
 -- where none of two lists applies, none of the second does
-second : (xs ys : List Test) → numbered xs ≡ true → decided (xs ++ ys) .0 ≡ 0 → (decided xs .0 ≡ 0) × (decided ys .0 ≡ 0)
+pub second : (xs ys : List Test) → numbered xs ≡ true → decided (xs ++ ys) .0 ≡ 0 → (decided xs .0 ≡ 0) × (decided ys .0 ≡ 0)
 second xs ys n h = go (eqb (decided xs .0) 0) refl
   where
     go : (b : Bool) → eqb (decided xs .0) 0 ≡ b → (decided xs .0 ≡ 0) × (decided ys .0 ≡ 0)
@@ -55,18 +55,18 @@ second xs ys n h = go (eqb (decided xs .0) 0) refl
         absurd (some (ap (λ (d : ℕ × ℕ). d .0) (sym (joined xs ys (0, 0) ∙ decides xs (decided ys) some)) ∙ h))
 
 -- the first test of a list in which none applies
-first-not : (b : Bool) (number offset : ℕ) (rest : List Test) → (number ≡ 0 → ⊥) → decided ((b, (number, offset)) ∷ rest) .0 ≡ 0 → b ≡ false
+pub first-not : (b : Bool) (number offset : ℕ) (rest : List Test) → (number ≡ 0 → ⊥) → decided ((b, (number, offset)) ∷ rest) .0 ≡ 0 → b ≡ false
 first-not true number offset rest named h = absurd (named h)
 first-not false number offset rest named h = refl
 
-length-frames : (n at : ℕ) (s : List ℕ) → length (framesFrom n at s) ≡ n
+pub length-frames : (n at : ℕ) (s : List ℕ) → length (framesFrom n at s) ≡ n
 unfolding framesFrom
 length-frames zero at s = refl
 length-frames (suc n) at s = ap suc (length-frames n (at + sizeAt s at) s)
 
 module _ {Table : Type 0} (x : Session (List ℕ) Table) (s : List ℕ) where
   -- what the judge accepted
-  judged : (p : Packet (List ℕ)) → judge x s ≡ some p → (decided (takeTests x s) .0 ≡ 0) × (packetIn s ≡ p)
+  pub judged : (p : Packet (List ℕ)) → judge x s ≡ some p → (decided (takeTests x s) .0 ≡ 0) × (packetIn s ≡ p)
   unfolding judge
   judged p h = go (eqb (decided (takeTests x s) .0) 0) refl
     where

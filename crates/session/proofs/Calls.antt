@@ -1,0 +1,313 @@
+-- The calls over the engine: an opening, one packet, a burst, and what is missing.
+-- Assumes nothing.
+use mathlib.Core.Path.{_≡_, refl, ap, ap₂, _∙_, sym, subst}
+use mathlib.Core.Bool.{Bool, true, false, cond, not, _&&_}
+use mathlib.Core.List.{List, [], _∷_, _++_, append-nil, map}
+use mathlib.Core.Option.{Option, none, some}
+use Prim.Native.Nat.{ℕ, zero, suc, _+_, _-_, _*_, _/_, _%_, _≤_, _<_, min, max}
+use native.Mathlib.Omega.{arith}
+use borrow.Author.Tests.{eq-eqb, le-leb, le-ltb, leb-true, lt-leb, lt-ltb, ne-eqb}
+use lib.Dec.{eqb, leb, ltb}
+use lib.ListN.{length, getD, replicate, length-append, length-map, length-replicate}
+use Rattle.wire.specs.Number.{Bytes, part, splice}
+use Rattle.wire.proofs.Place.{part-all, part-bytes, splice-none}
+use Rattle.merge.specs.Session.{opened, takeAll, takeOne}
+use Rattle.merge.proofs.Window.{next-end}
+use Rattle.packet.specs.Header as header
+use Rattle.packet.specs.Header.{Test, decided, flagTests, headerIn, headerTests}
+use Rattle.packet.specs.Judging.{bodyTests, packetTests, unlessHeartbeat}
+use Rattle.packet.specs.Walk.{walkFrom}
+use Rattle.waiting.specs.Runs as runs
+use Rattle.waiting.specs.Runs.{IsRun, closed, firstFrom, limitOf, missingIn, runFrom, runsFrom}
+use Rattle.waiting.specs.Window.{placeOf, placesFrom, sizeAt, startOf, waitsAt, windowOf, zeros}
+use Rattle.waiting.specs.declared.missing.Gap.{Gap}
+use Rattle.waiting.proofs.Firsts.{Between, first-between}
+use Rattle.book.specs.Rule.{Kept}
+use Rattle.book.specs.Tables as book
+use Rattle.book.specs.Tables.{fresh}
+use Rattle.book.specs.declared.tables.Book.{Book}
+use Rattle.taking.specs.Keeping.{waitingOf, windowFor}
+use Rattle.taking.specs.Taking.{bytesAt, takeTests, waitTests}
+use Rattle.taking.proofs.Windows.{waits-place}
+use Rattle.session.specs.Meaning.{AllBytes, Ruled, State, feed, overnight, rep, view}
+use Rattle.session.specs.Asking.{gapFrom, gapsOf, lacks, limit, missing, placed}
+use Rattle.session.specs.Bursts.{answerOf, answered, answersAfter, appliedOf, burstFrom, burstOf, framesOf, lengthAt, packetsIn, packetsOf, refusalOf, rowOf, rowsOf, takenOf}
+use Rattle.session.specs.Turns.{Runs}
+use Rattle.session.specs.declared.packets.Answer.{Answer}
+use Rattle.session.specs.declared.packets.Answer.the-variants.{Applied, Refused}
+use Rattle.session.specs.declared.packets.Count.{Count}
+use Rattle.session.specs.declared.packets.Count.the-variants as count
+use Rattle.session.specs.declared.packets.Taken.{Taken}
+use Rattle.session.specs.declared.packets.TakenAll.{TakenAll}
+use Rattle.session.specs.declared.state.Session.{Session}
+use Rattle.session.proofs.States.{Good, Stands, kept, meaning, ruled-more, ruled-one, ruled-open, stands}
+
+-- ---- an opening
+
+replicate-more : (a b x : ℕ) → replicate a x ++ replicate b x ≡ replicate (a + b) x
+replicate-more zero b x = let e : 0 + b ≡ b = omega arith in ap (λ (n : ℕ). replicate n x) (sym e)
+replicate-more (suc a) b x = let e : suc (a + b) ≡ suc a + b = omega arith in ap (λ (l : List ℕ). x ∷ l) (replicate-more a b x) ∙ ap (λ (n : ℕ). replicate n x) e
+
+all-free : (p n : ℕ) → replicate (n * 128) 0 ≡ placesFrom (λ i. none) p n
+unfolding placesFrom placeOf zeros
+all-free p zero = refl
+all-free p (suc n) =
+    let e : suc n * 128 ≡ 128 + n * 128 = omega arith in
+    ap (λ (k : ℕ). replicate k 0) e ∙ sym (replicate-more 128 (n * 128) 0) ∙ ap (λ (l : List ℕ). replicate 128 0 ++ l) (all-free (suc p) n)
+
+pub opens-fresh : (n : ℕ) {b : Book} → b ≡ book.rep fresh → _≡_ {A = Session} (record { book = b; window = replicate 32768 0; next = n; end = n }) (rep (opened feed n))
+unfolding opened windowFor windowOf
+opens-fresh n is = λ i. record { book = is i; window = all-free 0 256 i; next = n; end = n }
+
+pub rule-of : {s t : Session} → s ≡ t → Ruled t → Ruled s
+rule-of e r = subst Ruled (sym e) r
+
+-- ---- one packet
+
+-- the numbers of the tests are at most 10
+abbrev few : List Test → Bool
+few [] = true
+few (t ∷ ts) = leb (t .1 .0) 10 && few ts
+
+both : (a b : Bool) → (a && b) ≡ true → (a ≡ true) × (b ≡ true)
+both true b h = (refl, h)
+both false b h = absurd (omega (arith, ap {B = ℕ} (λ (c : Bool). cond c 1 0) h))
+
+small-by : (b : Bool) (t d : ℕ × ℕ) → t .0 ≤ 10 → d .0 ≤ 10 → cond b t d .0 ≤ 10
+small-by true t d h g = h
+small-by false t d h g = g
+
+small : (ts : List Test) → few ts ≡ true → decided ts .0 ≤ 10
+small [] h = omega arith
+small (t ∷ ts) h = let b = both (leb (t .1 .0) 10) (few ts) h in small-by (t .0) (t .1) (decided ts) (leb-true (t .1 .0) 10 (b .0)) (small ts (b .1))
+
+few-more : (xs ys : List Test) → few xs ≡ true → few ys ≡ true → few (xs ++ ys) ≡ true
+few-more [] ys h g = g
+few-more (x ∷ xs) ys h g = let b = both (leb (x .1 .0) 10) (few xs) h in ap₂ _&&_ (b .0) (few-more xs ys (b .1) g)
+
+few-unless : (b : Bool) (ts : List Test) → few ts ≡ true → few (unlessHeartbeat b ts) ≡ true
+few-unless true ts h = refl
+few-unless false ts h = h
+
+pub refusal-small : (x : State) (s : List ℕ) → refusalOf x s ≤ 10
+unfolding takeTests packetTests headerTests flagTests bodyTests
+refusal-small x s =
+    small (takeTests x s)
+    (few-more (packetTests s) (unlessHeartbeat (header.heartbeat (headerIn s .flag)) (waitTests x s))
+    (few-more (headerTests s) (unlessHeartbeat (header.heartbeat (headerIn s .flag)) (bodyTests (walkFrom (headerIn s .messages) 12 s) (headerIn s .seq) (headerIn s .messages))) refl
+    (few-unless (header.heartbeat (headerIn s .flag)) (bodyTests (walkFrom (headerIn s .messages) 12 s) (headerIn s .seq) (headerIn s .messages)) refl))
+    (few-unless (header.heartbeat (headerIn s .flag)) (waitTests x s) refl))
+
+one-packet : (s : List ℕ) → packetsOf true s ≡ s ∷ []
+one-packet s = ap (λ (l : List ℕ). l ∷ []) (part-all s)
+
+pub one-runs : (s : List ℕ) → Runs true s 1 4
+one-runs s = record { all = refl; some = omega arith; room = omega arith; big = omega arith }
+
+module _ (x : State) (s : List ℕ) {l : List ℕ} (rows : l ≡ splice (0 ∷ 0 ∷ 0 ∷ 0 ∷ []) 0 (rowsOf x (packetsOf true s))) where
+  four : l ≡ rowOf x s
+  unfolding splice rowsOf
+  four = rows ∙ ap (λ (ps : List (List ℕ)). splice (0 ∷ 0 ∷ 0 ∷ 0 ∷ []) 0 (rowsOf x ps)) (one-packet s)
+
+  pub told-refusal : getD l 1 0 ≤ 255
+  told-refusal = subst (λ (k : List ℕ). getD k 1 0 ≤ 255) (sym four) (omega (arith, refusal-small x s))
+
+  pub taken-is : {after : Session} {answer : Answer} → after ≡ rep (takeAll overnight x (packetsOf true s)) → answer ≡ answered (getD l 0 0) (getD l 1 0)
+      → _≡_ {A = Taken} (record { session = after; answer = answer }) (takenOf x s)
+  unfolding takeAll
+  taken-is {after} {answer} sessions answers =
+      let a : after ≡ rep (takeOne overnight x s) = sessions ∙ ap (λ (ps : List (List ℕ)). rep (takeAll overnight x ps)) (one-packet s) in
+      let b : answer ≡ answerOf x s = answers ∙ ap (λ (k : List ℕ). answered (getD k 0 0) (getD k 1 0)) four in
+      λ i. record { session = a i; answer = b i }
+
+pub answer-none : (applied refusal : ℕ) → refusal ≡ 0 → Applied applied ≡ answered applied refusal
+unfolding answered
+answer-none applied refusal e = sym (ap (λ (b : Bool). cond b (Applied applied) (Refused refusal)) (eq-eqb refusal 0 e))
+
+pub answer-some : (applied refusal : ℕ) → (refusal ≡ 0 → ⊥) → Refused refusal ≡ answered applied refusal
+unfolding answered
+answer-some applied refusal e = sym (ap (λ (b : Bool). cond b (Applied applied) (Refused refusal)) (ne-eqb refusal 0 e))
+
+-- ---- a burst
+
+parts-bytes : (s : List ℕ) → Bytes s → (fs : List (ℕ × ℕ)) → AllBytes (map (bytesAt s) fs)
+parts-bytes s bytes [] = tt
+parts-bytes s bytes (f ∷ fs) = (part-bytes s (f .0) (f .1) bytes, parts-bytes s bytes fs)
+
+length-packets : (s : List ℕ) → length (packetsIn s) ≡ length (burstFrom (length s) 0 s)
+length-packets s = length-map (burstFrom (length s) 0 s) (bytesAt s)
+
+module _ {session : Session} (rule : Ruled session) (s : List ℕ) (answers : List ℕ) {n : ℕ} (all : n ≡ length (burstFrom (length s) 0 s)) where
+  packets-are : length (packetsIn s) ≡ n
+  packets-are = length-packets s ∙ sym all
+
+  itself : session ≡ rep (view session)
+  itself = stands rule .same ∙ ap rep (sym (meaning (stands rule)))
+
+  module _ (few : length answers / 4 < n) where
+    test : ltb (length answers) (4 * length (packetsIn s)) ≡ true
+    test = lt-ltb (length answers) (4 * length (packetsIn s)) (omega (arith, packets-are))
+
+    pub too-short : _≡_ {A = TakenAll} (record { session = session; count = count.Refused 11 }) (burstOf (view session) (packetsIn s) (length answers))
+    unfolding burstOf
+    too-short =
+        (λ i. record { session = itself i; count = count.Refused 11 })
+        ∙ sym
+        (ap (λ (b : Bool). cond b (record { session = rep (view session); count = count.Refused 11 }) (record { session = rep (takeAll overnight (view session) (packetsIn s)); count = count.Packets (length (packetsIn s)) })) test)
+
+    pub unwritten : answers ≡ answersAfter (view session) (packetsIn s) answers
+    unfolding answersAfter
+    unwritten = sym (ap (λ (b : Bool). cond b answers (splice answers 0 (rowsOf (view session) (packetsIn s)))) test)
+
+  module _ (room : n ≤ length answers / 4) where
+    enough : ltb (length answers) (4 * length (packetsIn s)) ≡ false
+    enough = le-ltb (length answers) (4 * length (packetsIn s)) (omega (arith, packets-are))
+
+    pub taken-all : {after : Session} → after ≡ rep (takeAll overnight (view session) (packetsIn s)) → _≡_ {A = TakenAll} (record { session = after; count = count.Packets n }) (burstOf (view session) (packetsIn s) (length answers))
+    unfolding burstOf
+    taken-all sessions =
+        (λ i. record { session = sessions i; count = count.Packets (sym packets-are i) })
+        ∙ sym
+        (ap (λ (b : Bool). cond b (record { session = rep (view session); count = count.Refused 11 }) (record { session = rep (takeAll overnight (view session) (packetsIn s)); count = count.Packets (length (packetsIn s)) })) enough)
+
+    pub rows-all : {after : List ℕ} → after ≡ splice answers 0 (rowsOf (view session) (packetsIn s)) → after ≡ answersAfter (view session) (packetsIn s) answers
+    unfolding answersAfter
+    rows-all is = is ∙ sym (ap (λ (b : Bool). cond b answers (splice answers 0 (rowsOf (view session) (packetsIn s)))) enough)
+
+    -- no whole packet
+    module _ (empty : n ≡ 0) where
+      none-there : packetsIn s ≡ []
+      none-there = go (packetsIn s) (packets-are ∙ empty)
+        where
+          go : (l : List (List ℕ)) → length l ≡ 0 → l ≡ []
+          go [] e = refl
+          go (p ∷ ps) e = absurd (omega arith)
+
+      pub none-taken : _≡_ {A = TakenAll} (record { session = session; count = count.Packets 0 }) (burstOf (view session) (packetsIn s) (length answers))
+      unfolding takeAll
+      none-taken =
+          (λ i. record { session = session; count = count.Packets (sym empty i) })
+          ∙ taken-all (itself ∙ sym (ap (λ (ps : List (List ℕ)). rep (takeAll overnight (view session) ps)) none-there))
+
+      pub none-written : answers ≡ answersAfter (view session) (packetsIn s) answers
+      unfolding rowsOf
+      none-written = rows-all (sym (ap (λ (ps : List (List ℕ)). splice answers 0 (rowsOf (view session) ps)) none-there ∙ splice-none answers 0))
+
+    pub burst-runs : length answers ≤ 18446744073709551615 → (n ≡ 0 → ⊥) → Runs false s n (length answers)
+    burst-runs big one = record { all = all; some = omega (arith, one); room = omega arith; big = big }
+
+pub rule-packets : {session : Session} → Ruled session → (single : Bool) (s : List ℕ) → Bytes s → {after : Session} → after ≡ rep (takeAll overnight (view session) (packetsOf single s)) → Ruled after
+rule-packets rule single s bytes e = rule-of e (ruled-more rule (packetsOf single s) (parts-bytes s bytes (framesOf single s)))
+
+-- ---- counting the packets of a burst
+
+pub record Counting (s : List ℕ) (at n : ℕ) : Type 0 where
+  pub within : at ≤ length s
+  pub apart : 2 * n ≤ at
+  pub rest : length (burstFrom (length s) 0 s) ≡ n + length (burstFrom (length s - n) at s)
+
+pub count-start : (s : List ℕ) → Counting s 0 0
+count-start s =
+    let e : length s - 0 ≡ length s = omega arith in
+    let f : 0 + length (burstFrom (length s) 0 s) ≡ length (burstFrom (length s) 0 s) = omega arith in
+    record { within = omega arith; apart = omega arith; rest = sym (ap (λ (k : ℕ). 0 + length (burstFrom k 0 s)) e ∙ f) }
+
+module _ {s : List ℕ} {at n : ℕ} (g : Counting s at n) where
+  stop : (fuel : ℕ) → leb (at + 2 + lengthAt s at) (length s) ≡ false → length (burstFrom fuel at s) ≡ 0
+  unfolding burstFrom
+  stop zero e = refl
+  stop (suc fuel) e = ap (λ (b : Bool). length (cond b ((at + 2, lengthAt s at) ∷ burstFrom fuel (at + 2 + lengthAt s at) s) [])) e
+
+  ends : leb (at + 2 + lengthAt s at) (length s) ≡ false → n ≡ length (burstFrom (length s) 0 s)
+  ends e = omega (arith, g .rest, stop (length s - n) e)
+
+  pub no-length : length s - at < 2 → n ≡ length (burstFrom (length s) 0 s)
+  no-length h = ends (lt-leb (at + 2 + lengthAt s at) (length s) (omega (arith, g .within)))
+
+  module _ (some : 2 ≤ length s - at) {size : ℕ} (told : size ≡ lengthAt s at) where
+    pub cut-short : length s - at - 2 < size → n ≡ length (burstFrom (length s) 0 s)
+    cut-short h = ends (lt-leb (at + 2 + lengthAt s at) (length s) (omega (arith, told)))
+
+    pub one-more : size ≤ length s - at - 2 → Counting s (at + (2 + size)) (n + 1)
+    unfolding burstFrom
+    one-more h =
+        let fits : leb (at + 2 + lengthAt s at) (length s) ≡ true = le-leb (at + 2 + lengthAt s at) (length s) (omega (arith, told)) in
+        let fuel : length s - n ≡ suc (length s - (n + 1)) = omega (arith, g .apart) in
+        let to : at + 2 + lengthAt s at ≡ at + (2 + size) = omega (arith, told) in
+        let step : length (burstFrom (length s - n) at s) ≡ suc (length (burstFrom (length s - (n + 1)) (at + (2 + size)) s)) =
+        ap (λ (k : ℕ). length (burstFrom k at s)) fuel
+        ∙ ap (λ (b : Bool). length (cond b ((at + 2, lengthAt s at) ∷ burstFrom (length s - (n + 1)) (at + 2 + lengthAt s at) s) [])) fits
+        ∙ ap (λ (k : ℕ). suc (length (burstFrom (length s - (n + 1)) k s))) to in
+        record { within = omega arith; apart = omega (arith, g .apart); rest = omega (arith, g .rest, step) }
+
+-- ---- what is missing
+
+pub book-kept : {s : Session} → Ruled s → Kept (s .book)
+book-kept r = subst (λ (z : Session). Kept (z .book)) (sym (stands r .same)) (kept (stands r .good))
+
+pub record Numbered (s : Session) : Type 0 where
+  pub order : s .next ≤ s .end
+  pub top : s .end ≤ 4294967296
+
+pub numbered : {s : Session} → Ruled s → Numbered s
+numbered r =
+    let h = stands r in
+    subst Numbered (sym (h .same)) (record { order = next-end (h .good .inv); top = h .good .top })
+
+lacks-by : (b : Bool) (m : List ℕ) → lacks (cond b none (some m)) ≡ b
+lacks-by true m = refl
+lacks-by false m = refl
+
+missing-same : (w : List ℕ) (next k : ℕ) → next ≤ k → k < next + 256 → missingIn w k ≡ lacks (waitingOf w next k)
+unfolding waitsAt
+missing-same w next k lo hi = sym (ap lacks (waits-place w next k lo hi) ∙ lacks-by (eqb (sizeAt w (k % 256)) 0) (part w (startOf (k % 256)) (sizeAt w (k % 256))))
+
+-- two tests that agree on n numbers from k on
+Alike : (ℕ → Bool) → (ℕ → Bool) → ℕ → ℕ → Type 0
+Alike f g k n = (j : ℕ) → k ≤ j → j < k + n → f j ≡ g j
+
+alike-on : (f g : ℕ → Bool) (k n : ℕ) → Alike f g k (suc n) → Alike f g (k + 1) n
+unfolding Alike
+alike-on f g k n h j lo hi = h j (omega arith) (omega arith)
+
+runs-same : (f g : ℕ → Bool) (k n begun : ℕ) → Alike f g k n → runsFrom f k n begun ≡ runsFrom g k n begun
+unfolding runsFrom Alike
+runs-same f g k zero begun h = refl
+runs-same f g k (suc n) begun h =
+    (λ i. cond (h k (omega arith) (omega arith) i) (runs-same f g (k + 1) n (begun + 1) (alike-on f g k n h) i) (closed k begun ++ runs-same f g (k + 1) n 0 (alike-on f g k n h) i))
+
+first-same : (f g : ℕ → Bool) (k n : ℕ) → Alike f g k n → firstFrom f k n ≡ firstFrom g k n
+unfolding firstFrom Alike
+first-same f g k zero h = refl
+first-same f g k (suc n) h = λ i. cond (h k (omega arith) (omega arith) i) k (first-same f g (k + 1) n (alike-on f g k n h) i)
+
+run-same : (f g : ℕ → Bool) (k n : ℕ) → Alike f g k n → runFrom f k n ≡ runFrom g k n
+unfolding runFrom Alike
+run-same f g k n h =
+    let start : ℕ = firstFrom f k n in
+    let one : firstFrom f k n ≡ firstFrom g k n = first-same f g k n h in
+    let between : Between k (k + n) (firstFrom f k n) = first-between f k n in
+    let two : firstFrom (λ j. not (f j)) start (k + n - start) ≡ firstFrom (λ j. not (g j)) start (k + n - start) =
+    first-same (λ j. not (f j)) (λ j. not (g j)) start (k + n - start) (λ j lo hi. ap not (h j (omega (arith, between .least)) (omega (arith, between .most)))) in
+    (λ i. (start, two i - start)) ∙ ap (λ (m : ℕ). (m, firstFrom (λ j. not (g j)) m (k + n - m) - m)) one
+
+module _ (s : Session) where
+  near : (k n : ℕ) → s .next ≤ k → k + n ≤ s .next + 256 → Alike (missingIn (s .window)) (missing (view s)) k n
+  unfolding Alike
+  near k n lo hi j l h = missing-same (s .window) (s .next) j (omega arith) (omega arith)
+
+  pub gaps-same : runs.gapsOf (s .window) (s .next) (s .end) ≡ gapsOf (view s)
+  unfolding gapsOf
+  gaps-same =
+      runs-same (missingIn (s .window)) (missing (view s)) (s .next) (limitOf (s .next) (s .end) - s .next) 0
+      (near (s .next) (limitOf (s .next) (s .end) - s .next) (omega arith) (omega arith))
+
+  pub gap-same : (from : ℕ) {top first : ℕ} {gap : Gap} → s .next ≤ s .end → top ≡ min (s .end) (s .next + 256) → first ≡ min (max from (s .next)) top → IsRun (missingIn (s .window)) first top gap → gap ≡ gapFrom (view s) from
+  unfolding gapFrom
+  gap-same from {top} {first} {gap} ordered ends begins run =
+      let at : first ≡ placed (view s) from = begins ∙ ap (min (max from (s .next))) ends in
+      let same : runFrom (missingIn (s .window)) first (top - first) ≡ runFrom (missing (view s)) first (top - first) =
+      run-same (missingIn (s .window)) (missing (view s)) first (top - first) (near first (top - first) (omega arith) (omega arith)) in
+      let whole : runFrom (missing (view s)) first (top - first) ≡ runFrom (missing (view s)) (placed (view s) from) (limit (view s) - placed (view s) from) =
+      (λ i. runFrom (missing (view s)) (at i) (ends i - at i)) in
+      λ i. record { start = (run .start ∙ ap (λ (p : ℕ × ℕ). p .0) (same ∙ whole)) i; count = (run .count ∙ ap (λ (p : ℕ × ℕ). p .1) (same ∙ whole)) i }

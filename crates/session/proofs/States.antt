@@ -1,0 +1,197 @@
+-- The meanings that an opening and packets give, and the sessions that hold them.
+-- Assumes nothing.
+use mathlib.Core.Path.{_≡_, refl, ap, _∙_, sym, subst}
+use mathlib.Core.List.{List, [], _∷_, _++_}
+use mathlib.Core.Logic.{by-cases}
+use mathlib.Core.Option.{Option, none, some, Option·none-ne-some}
+use Prim.Native.Nat.{ℕ, zero, suc, _+_, _≤_, _<_}
+use native.Mathlib.Decide.{decLt, ℕ-discrete}
+use native.Mathlib.Omega.{arith}
+use Rattle.wire.specs.Number.{Bytes}
+use Rattle.merge.specs.Session.{Packet, applyUpTo, copyOf, endOf, firstOf, freedAt, keep, keptAt, opened, step, takeAll, takeIf, takeOne}
+use Rattle.merge.specs.History.{accepted}
+use Rattle.merge.specs.Promise.{Fits, Inv, Rule}
+use Rattle.merge.proofs.Clauses.{freed-next, freed-other, kept-new, kept-old}
+use Rattle.merge.proofs.Demand3.{opened-rule, takeAll-rule}
+use Rattle.merge.proofs.Lowest.{front-free}
+use Rattle.merge.proofs.Rule.{keep-inv, opened-inv, step-inv}
+use Rattle.merge.proofs.Window.{next-end, waits-where}
+use Rattle.book.specs.Applying.{Whole, applyOf}
+use Rattle.book.specs.Rule.{Kept, Ready, Sound}
+use Rattle.book.specs.Tables as book
+use Rattle.book.specs.Tables.{Tables}
+use Rattle.book.proofs.Keeping as keeping
+use Rattle.book.proofs.Laws.{counted-next}
+use Rattle.taking.specs.Keeping.{Neat, keptBy, keptIf, windowFor}
+use Rattle.taking.specs.Taking.{judge}
+use Rattle.taking.proofs.Accepted.{overnight-judged}
+use Rattle.taking.proofs.Passing.{Passes, passes}
+use Rattle.taking.proofs.Windows.{Within, neat-for, waiting-for}
+use Rattle.session.specs.Meaning.{AllBytes, Ruled, State, feed, overnight, rep, view}
+use Rattle.session.specs.declared.state.Session.{Session}
+
+-- what all of them have, also between two messages
+pub record Good (x : State) : Type 0 where
+  pub start : ℕ
+  pub history : List (Packet (List ℕ))
+  pub inv : Inv feed 256 start history x
+  pub sound : Sound (x .tables)
+  pub counted : x .tables .faults .count ≤ x .next
+  pub whole : (k : ℕ) (m : List ℕ) → x .waiting k ≡ some m → Whole m
+  pub top : x .end ≤ 4294967296
+
+module _ {x : State} (g : Good x) where
+  pub within : Within (x .waiting) (x .next)
+  within = record { low = g .inv .old; high = g .inv .near; whole = g .whole }
+
+  pub next-top : x .next ≤ 4294967296
+  next-top = omega (arith, next-end (g .inv), g .top)
+
+  pub neat : Neat (windowFor (x .waiting) (x .next)) (x .next)
+  neat = neat-for within next-top
+
+  pub kept : Kept (book.rep (x .tables))
+  kept = keeping.kept-rep (x .tables) (g .sound)
+
+  pub view-rep : view (rep x) ≡ x
+  view-rep = λ i. record { next = x .next; end = x .end; waiting = waiting-for within i; tables = keeping.view-rep (x .tables) i }
+
+  -- a number that waits is below 4,294,967,296
+  pub waits-below : (k : ℕ) {m : List ℕ} → x .waiting k ≡ some m → k < 4294967296
+  waits-below k e = omega (arith, waits-where (g .inv) k e .known, g .top)
+
+  pub ready : {m : List ℕ} → x .waiting (x .next) ≡ some m → Ready (book.rep (x .tables)) (x .next) m
+  ready {m} e = record { kept = kept; whole = g .whole (x .next) m e; counted = g .counted; within = waits-below (x .next) e }
+
+  either : (o o′ : Option (List ℕ)) {m : List ℕ} → ((a : List ℕ) → o ≡ some a → Whole a) → ((a : List ℕ) → o′ ≡ some a → Whole a) → firstOf o o′ ≡ some m → Whole m
+  either none o′ {m} h h′ e = h′ m e
+  either (some a) o′ {m} h h′ e = h m e
+
+  pub good-keep : (p : Packet (List ℕ)) → Fits 256 x p → Passes p → Good (keep x p)
+  unfolding keep
+  good-keep p fits pass =
+      record {
+        start = g .start;
+        history = g .history ++ (p ∷ []);
+        inv = keep-inv feed 256 (g .start) (g .inv) p fits;
+        sound = g .sound;
+        counted = g .counted;
+        whole =
+            λ k m e.
+            by-cases (decLt k (x .next))
+            (λ l. g .whole k m (sym (kept-old x p k l) ∙ e))
+            (λ l. either (x .waiting k) (copyOf p k) (λ a f. g .whole k a f) (λ a f. pass .whole k a f) (sym (kept-new x p k (omega arith)) ∙ e));
+        top = omega (arith, g .top, pass .top);
+      }
+
+  pub good-step : {m : List ℕ} → x .waiting (x .next) ≡ some m → Good (step feed x (some m))
+  unfolding step
+  good-step {m} e =
+      record {
+        start = g .start;
+        history = g .history;
+        inv = step-inv feed 256 (g .start) (g .inv) (some m) e;
+        sound = keeping.sound-apply (x .tables) (g .sound) m (x .next);
+        counted = subst (λ (t : Tables). applyOf t (x .next) m .faults .count ≤ x .next + 1) (keeping.view-rep (x .tables)) (counted-next (ready e));
+        whole =
+            λ k m′ f.
+            by-cases (ℕ-discrete k (x .next))
+            (λ q. absurd (Option·none-ne-some _ (sym (ap (freedAt x) q ∙ freed-next x) ∙ f)))
+            (λ ne. g .whole k m′ (sym (freed-other x k ne) ∙ f));
+        top = g .top;
+      }
+
+pub good-open : (n : ℕ) → n ≤ 4294967295 → Good (opened feed n)
+unfolding opened
+good-open n small =
+    record {
+      start = n;
+      history = [];
+      inv = opened-inv feed 256 n;
+      sound = keeping.fresh-sound;
+      counted = omega arith;
+      whole = λ k m e. absurd (Option·none-ne-some _ e);
+      top = omega arith;
+    }
+
+go-step : {x : State} → Good x → (o : Option (List ℕ)) → x .waiting (x .next) ≡ o → Good (step feed x o)
+unfolding step
+go-step g none e = g
+go-step g (some m) e = good-step g e
+
+pub good-apply : (c : ℕ) {x : State} → Good x → Good (applyUpTo feed c x)
+unfolding applyUpTo
+good-apply zero g = g
+good-apply (suc c) {x} g = good-apply c (go-step g (x .waiting (x .next)) refl)
+
+module _ {x : State} (g : Good x) (s : List ℕ) (bytes : Bytes s) where
+  pub good-kept : Good (keptBy x s)
+  unfolding keptIf
+  good-kept = go (judge x s) refl
+    where
+      go : (o : Option (Packet (List ℕ))) → judge x s ≡ o → Good (keptIf x o)
+      go none e = g
+      go (some p) e = good-keep g p (overnight-judged feed .fits x s p e) (passes x s bytes e)
+
+  pub good-one : Good (takeOne overnight x s)
+  unfolding takeOne takeIf
+  good-one = go (judge x s) refl
+    where
+      go : (o : Option (Packet (List ℕ))) → judge x s ≡ o → Good (takeIf overnight x o)
+      go none e = g
+      go (some p) e = good-apply 256 (good-keep g p (overnight-judged feed .fits x s p e) (passes x s bytes e))
+
+pub good-all : (ss : List (List ℕ)) → AllBytes ss → {x : State} → Good x → Good (takeAll overnight x ss)
+unfolding takeAll
+good-all [] all g = g
+good-all (s ∷ ss) all g = good-all ss (all .1) (good-one g s (all .0))
+
+-- a session that keeps the rule holds such a meaning, and nothing in it is left to apply
+pub record Stands (s : Session) : Type 0 where
+  pub state : State
+  pub good : Good state
+  pub front : state .waiting (state .next) ≡ none
+  pub same : s ≡ rep state
+
+pub stands : {s : Session} → Ruled s → Stands s
+stands r =
+    let x : State = takeAll overnight (opened feed (r .number)) (r .handed) in
+    let settled : Rule overnight (r .number) ([] ++ accepted overnight (opened feed (r .number)) (r .handed)) x = takeAll-rule overnight (r .number) (overnight-judged feed) (r .handed) (opened-rule overnight (r .number)) in
+    record {
+      state = x;
+      good = good-all (r .handed) (r .bytes) (good-open (r .number) (r .small));
+      front = front-free (settled .inv) (settled .lowest);
+      same = r .given;
+    }
+
+pub meaning : {s : Session} (h : Stands s) → view s ≡ h .state
+meaning h = ap view (h .same) ∙ view-rep (h .good)
+
+-- the rule is kept
+all-more : (ss ts : List (List ℕ)) → AllBytes ss → AllBytes ts → AllBytes (ss ++ ts)
+all-more [] ts a b = b
+all-more (s ∷ ss) ts a b = (a .0, all-more ss ts (a .1) b)
+
+take-more : (ss ts : List (List ℕ)) (x : State) → takeAll overnight x (ss ++ ts) ≡ takeAll overnight (takeAll overnight x ss) ts
+unfolding takeAll
+take-more [] ts x = refl
+take-more (s ∷ ss) ts x = take-more ss ts (takeOne overnight x s)
+
+pub ruled-more : {s : Session} → Ruled s → (ts : List (List ℕ)) → AllBytes ts → Ruled (rep (takeAll overnight (view s) ts))
+unfolding stands takeAll
+ruled-more {s} r ts bytes =
+    record {
+      number = r .number;
+      small = r .small;
+      handed = r .handed ++ ts;
+      bytes = all-more (r .handed) ts (r .bytes) bytes;
+      given = ap rep (ap (λ (x : State). takeAll overnight x ts) (meaning (stands r)) ∙ sym (take-more (r .handed) ts (opened feed (r .number))));
+    }
+
+pub ruled-one : {s : Session} → Ruled s → (t : List ℕ) → Bytes t → Ruled (rep (takeOne overnight (view s) t))
+unfolding takeAll
+ruled-one r t bytes = ruled-more r (t ∷ []) (bytes, tt)
+
+pub ruled-open : (n : ℕ) → n ≤ 4294967295 → Ruled (rep (opened feed n))
+unfolding takeAll
+ruled-open n small = record { number = n; small = small; handed = []; bytes = tt; given = refl }

@@ -1,0 +1,64 @@
+-- Parts of a burst: where a packet lies, and the turn that it is given.
+-- Assumes nothing.
+use mathlib.Core.Path.{_≡_}
+use mathlib.Core.Bool.{Bool, true, false}
+use mathlib.Core.List.{List, [], _∷_}
+use Prim.Native.Nat.{ℕ, _+_, _-_, _*_, _≤_}
+use lib.ListN.{length}
+use Rattle.wire.specs.Number.{part}
+use Rattle.merge.specs.Session as merge
+use Rattle.taking.specs.Keeping.{admittedOf}
+use Rattle.session.specs.Bursts.{framesOf, lengthAt}
+use Rattle.session.specs.declared.turning.Frame.{Frame}
+use Rattle.session.specs.declared.turning.Turn.{Turn}
+
+-- the packet at a place: the rest of the bytes, or what its length says
+abbrev pub frameAt : Bool → List ℕ → ℕ → Frame
+frameAt true s at = record { start = at; size = length s - at }
+frameAt false s at = record { start = at + 2; size = lengthAt s at }
+
+abbrev pub packetAt : Bool → List ℕ → ℕ → List ℕ
+packetAt single s at = part s (frameAt single s at .start) (frameAt single s at .size)
+
+abbrev pub behind : Bool → List ℕ → ℕ → ℕ
+behind single s at = frameAt single s at .start + frameAt single s at .size
+
+-- it lies in the bytes
+pub record Lies (single : Bool) (s : List ℕ) (at : ℕ) : Type 0 where
+  pub start : frameAt single s at .start ≤ length s
+  pub within : behind single s at ≤ length s
+
+module _ {Table : Type 0} where
+  -- the turn of the packet at a place
+  abbrev pub turnOf : merge.Session (List ℕ) Table → Bool → List ℕ → ℕ → ℕ → ℕ → Turn
+  turnOf x single s at left place =
+      record {
+        left = left;
+        at = behind single s at;
+        place = place;
+        before = x .next;
+        refusal = admittedOf x (packetAt single s at) .refusal;
+        end = admittedOf x (packetAt single s at) .end;
+      }
+
+-- its answer, with next as it is then
+abbrev pub closing : Turn → ℕ → List ℕ
+closing turn next = (next - turn .before) ∷ turn .refusal ∷ next ∷ turn .end ∷ []
+
+-- there is room for it
+pub record Closes (turn : Turn) (next n : ℕ) : Type 0 where
+  pub low : turn .before ≤ next
+  pub room : turn .place + 4 ≤ n
+
+-- what the next packet's turn asks for
+pub record Follows (single : Bool) (s : List ℕ) (turn : Turn) : Type 0 where
+  pub left : 1 ≤ turn .left
+  pub place : turn .place + 4 ≤ 18446744073709551615
+  pub lies : Lies single s (turn .at)
+
+-- what the engine asks for: so many packets, at least one, and room for their answers
+pub record Runs (single : Bool) (s : List ℕ) (count n : ℕ) : Type 0 where
+  pub all : count ≡ length (framesOf single s)
+  pub some : 1 ≤ count
+  pub room : 4 * count ≤ n
+  pub big : n ≤ 18446744073709551615

@@ -1,0 +1,97 @@
+// What can be asked of a session, and the requests for what was lost.
+use crate::state::Session;
+use book::asking;
+use book::asking::BestReply;
+use book::asking::InsideReply;
+use book::asking::OrderReply;
+use book::tables::Faults;
+use waiting::asking::Asked;
+use waiting::missing::Gap;
+ghost use mathlib.Core.Path.{_≡_};
+ghost use Prim.Native.Nat.{max, min, _+_, _≤_};
+ghost use lib.ListN.{length};
+ghost use Rattle.waiting.specs.Runs.{askedOf, bufferAfter};
+ghost use Rattle.book.specs.Asking.{orderAsked, bestAsked, insideAsked};
+ghost use Rattle.session.specs.Meaning.{view, Ruled};
+ghost use Rattle.session.specs.Asking.{gapFrom, gapsOf};
+
+pub fn next(session: Session) -> u64
+    ensures { λ r. ⌜ r ≡ view session .next ⌝ }
+{
+    session.next
+}
+
+pub fn end(session: Session) -> u64
+    ensures { λ r. ⌜ r ≡ view session .end ⌝ }
+{
+    session.end
+}
+
+// The code of the last Trading Session; 0 before the first.
+pub fn code(session: Session) -> u8
+    ensures { λ r. ⌜ r ≡ view session .tables .code ⌝ }
+{
+    session.book.code
+}
+
+// The first fault's number and reason, and how many messages faulted.
+pub fn faults(session: Session) -> Faults
+    ensures { λ r. ⌜ r ≡ view session .tables .faults ⌝ }
+{
+    session.book.faults
+}
+
+pub fn order(session: Session, id: [u8; 14]) -> OrderReply
+    requires { ⌜ Ruled session ⌝ }
+    ensures { λ r. ⌜ r ≡ orderAsked (view session .tables) id ⌝ }
+{
+    asking::order(session.book, id)
+}
+
+pub fn best(session: Session, symbol: [u8; 14], side: u8) -> BestReply
+    requires { ⌜ Ruled session ⌝ }
+    ensures { λ r. ⌜ r ≡ bestAsked (view session .tables) symbol side ⌝ }
+{
+    asking::best(session.book, symbol, side)
+}
+
+pub fn inside(session: Session, symbol: [u8; 14]) -> InsideReply
+    requires { ⌜ Ruled session ⌝ }
+    ensures { λ r. ⌜ r ≡ insideAsked (view session .tables) symbol ⌝ }
+{
+    asking::inside(session.book, symbol)
+}
+
+// One request for each run of missing numbers.
+pub fn requests(session: Session, buf: &mut [u8]) -> Asked
+    requires { ⌜ Ruled session ⌝ }
+    ensures answer { λ r. ⌜ r ≡ askedOf (gapsOf (view session)) (length (now (buf .entry))) ⌝ }
+    ensures buffer { λ r. ⌜ now (buf .exit) ≡ bufferAfter (gapsOf (view session)) (now (buf .entry)) ⌝ }
+{
+    let next = session.next;
+    let end = session.end;
+    waiting::asking::requests(&session.window, next, end, buf)
+}
+
+fn least(a: u64, b: u64) -> u64
+    ensures { λ r. ⌜ r ≡ min a b ⌝ }
+{
+    if a < b { a } else { b }
+}
+
+fn most(a: u64, b: u64) -> u64
+    ensures { λ r. ⌜ r ≡ max a b ⌝ }
+{
+    if a < b { b } else { a }
+}
+
+// The first run of missing numbers from a number on; its count is 0 where there is none.
+pub fn gap(session: Session, from: u64) -> Gap
+    requires { ⌜ Ruled session ⌝ }
+    ensures { λ r. ⌜ r ≡ gapFrom (view session) from ⌝ }
+{
+    let next = session.next;
+    let limit = least(session.end, next + 256);
+    let first = least(most(from, next), limit);
+    waiting::missing::run(&session.window, first, limit)
+}

@@ -1,0 +1,105 @@
+// Taking packets: one, or a burst of them. Both go through one engine.
+use crate::running::run;
+use crate::state::Session;
+ghost use mathlib.Core.Path.{_≡_};
+ghost use mathlib.Core.Bool.{cond};
+ghost use Prim.Native.Nat.{_≤_};
+ghost use lib.Dec.{eqb};
+ghost use lib.ListN.{length};
+ghost use Rattle.session.specs.Meaning.{view, Ruled};
+ghost use Rattle.session.specs.Bursts.{takenOf, burstFrom, burstOf, answersAfter, answered, packetsIn};
+
+pub enum Answer {
+    // How many messages were applied.
+    Applied(u64),
+    Refused(u8),
+}
+
+pub struct Taken {
+    pub session: Session,
+    pub answer: Answer,
+}
+
+pub enum Count {
+    // How many packets the burst had.
+    Packets(usize),
+    Refused(u8),
+}
+
+pub struct TakenAll {
+    pub session: Session,
+    pub count: Count,
+}
+
+fn answer_by(applied: u64, refusal: u64) -> Answer
+    requires { ⌜ refusal ≤ 255 ⌝ }
+    ensures { λ r. ⌜ r ≡ answered applied refusal ⌝ }
+{
+    if refusal == 0 {
+        return Answer::Applied(applied);
+    }
+    Answer::Refused(refusal as u8)
+}
+
+// One packet: the lent bytes are the whole of it.
+pub fn take(session: Session, packet: &[u8]) -> Taken
+    requires { ⌜ Ruled session ⌝ }
+    ensures taken { λ r. ⌜ r ≡ takenOf (view session) (now (packet .entry)) ⌝ }
+    ensures rule { λ r. ⌜ Ruled (r .session) ⌝ }
+{
+    let mut answers = [0u64; 4];
+    let after = run(session, packet, true, 1, &mut answers);
+    let answer = answer_by(answers[0], answers[1]);
+    Taken {
+        session: after,
+        answer,
+    }
+}
+
+// How many whole packets a burst has.
+fn whole(s: &[u8]) -> usize
+    ensures { λ r. ⌜ r ≡ length (burstFrom (length (now (s .entry))) 0 (now (s .entry))) ⌝ }
+{
+    let mut at: usize = 0;
+    let mut n: usize = 0;
+    loop {
+        let left = s.len() - at;
+        if left < 2 {
+            return n;
+        }
+        let size = wire::u16_at(s, at) as usize;
+        if left - 2 < size {
+            return n;
+        }
+        at += 2 + size;
+        n += 1;
+    }
+}
+
+// Several packets, each behind its length of 2 bytes. Four numbers answer each: how many messages
+// were applied, the refusal or 0, then next and end.
+pub fn burst(session: Session, packets: &[u8], answers: &mut [u64]) -> TakenAll
+    requires { ⌜ Ruled session ⌝ }
+    ensures burst { λ r. ⌜ r ≡ burstOf (view session) (packetsIn (now (packets .entry))) (length (now (answers .entry))) ⌝ }
+    ensures answers { λ r. ⌜ now (answers .exit) ≡ answersAfter (view session) (packetsIn (now (packets .entry))) (now (answers .entry)) ⌝ }
+    ensures rule { λ r. ⌜ Ruled (r .session) ⌝ }
+{
+    let count = whole(packets);
+    if answers.len() / 4 < count {
+        return TakenAll {
+            session,
+            count: Count::Refused(11),
+        };
+    }
+    if count == 0 {
+        return TakenAll {
+            session,
+            count: Count::Packets(0),
+        };
+    }
+    let after = run(session, packets, false, count, answers);
+    TakenAll {
+        session: after,
+        count: Count::Packets(count),
+    }
+}

@@ -1,0 +1,173 @@
+-- A packet judged by 1 to 10, by the test that decides; where none does, it is kept.
+-- Assumes nothing.
+use mathlib.Core.Path.{_≡_, refl, ap, _∙_, sym, subst}
+use mathlib.Core.Bool.{Bool, true, false, cond, not}
+use mathlib.Core.List.{List, [], _∷_, _++_, map}
+use mathlib.Core.Option.{Option, none, some}
+use Prim.Native.Nat.{ℕ, _+_, _-_, _%_, _≤_, _<_, max}
+use native.Mathlib.Omega.{arith}
+use borrow.Author.Tests.{eq-eqb, ne-eqb, le-leb, lt-leb, ltb-false}
+use lib.Dec.{eqb, leb, ltb}
+use lib.ListN.{length, length-map}
+use Rattle.wire.specs.Choice.{firstOf}
+use Rattle.merge.specs.Session.{Packet, Session, heartbeat, keep, packet}
+use Rattle.merge.proofs.Clauses.{keep-heartbeat}
+use Rattle.packet.specs.Header as header
+use Rattle.packet.specs.Header.{Test, decided, flagTests, headerIn, headerTests}
+use Rattle.packet.specs.Judging.{bodyTests, faultOf, isBroken, judgeOf, lastOf, packetTests, unlessHeartbeat}
+use Rattle.packet.specs.Walk.{framesFrom, walkFrom}
+use Rattle.packet.specs.declared.header.Header.{Header}
+use Rattle.packet.specs.declared.header.Judged.{Judged}
+use Rattle.packet.proofs.Judgements.{decides, header-numbered, joined, passes}
+use Rattle.taking.specs.Taking.{bytesAt, differFrom, framesIn, isSome, judge, nine, orZero, packetIn, takeTests, ten, waitTests}
+use Rattle.taking.specs.Keeping.{waitingOf, windowFor, stateOf, Neat, Passed, keptIf, keptBy, admittedOf}
+use Rattle.taking.specs.declared.admitting.Admitted.{Admitted}
+use Rattle.taking.proofs.Accepted.{first-not, length-frames, packet-numbered, second}
+use Rattle.taking.proofs.Keeps.{same-kept}
+use Rattle.taking.proofs.Walks.{unbroken}
+
+-- an answer and the window behind it are those of the definition
+pub record Admits (w s : List ℕ) (next end : ℕ) (r : Admitted) (after : List ℕ) : Type 0 where
+  pub answer : r ≡ admittedOf (stateOf w next end) s
+  pub kept : after ≡ windowFor (keptBy (stateOf w next end) s .waiting) next
+
+module _ {w : List ℕ} (s : List ℕ) {next : ℕ} (end : ℕ) (neat : Neat w next) where
+  abbrev x : Session (List ℕ) (Unit {0})
+  x = stateOf w next end
+
+  -- a test that applies refuses, and nothing changes
+  refused : (n : ℕ) → decided (takeTests x s) .0 ≡ n → (n ≡ 0 → ⊥) → Admits w s next end (record { refusal = n; end = end }) w
+  unfolding admittedOf keptIf judge
+  refused n h named =
+      let no : judge x s ≡ none = ap (λ (b : Bool). cond b (some (packetIn s)) none) (ne-eqb (decided (takeTests x s) .0) 0 (λ e. named (sym h ∙ e))) in
+      record {
+        answer = λ i. record { refusal = sym h i; end = sym (ap (λ (o : Option (Packet (List ℕ))). keptIf x o .end) no) i };
+        kept = neat .same ∙ sym (ap (λ (o : Option (Packet (List ℕ))). windowFor (keptIf x o .waiting) next) no);
+      }
+
+  -- where none applies, the packet is kept
+  taken : decided (takeTests x s) .0 ≡ 0 → {after : List ℕ} {to : ℕ} → to ≡ keep x (packetIn s) .end → after ≡ windowFor (keep x (packetIn s) .waiting) next → Admits w s next end (record { refusal = 0; end = to }) after
+  unfolding admittedOf keptIf judge
+  taken h ends is =
+      let yes : judge x s ≡ some (packetIn s) = ap (λ (b : Bool). cond b (some (packetIn s)) none) (eq-eqb (decided (takeTests x s) .0) 0 h) in
+      record {
+        answer = λ i. record { refusal = sym h i; end = (ends ∙ sym (ap (λ (o : Option (Packet (List ℕ))). keptIf x o .end) yes)) i };
+        kept = is ∙ sym (ap (λ (o : Option (Packet (List ℕ))). windowFor (keptIf x o .waiting) next) yes);
+      }
+
+  more : List Test
+  more = unlessHeartbeat (header.heartbeat (headerIn s .flag)) (waitTests x s)
+
+  apart : decided (takeTests x s) ≡ firstOf (packetTests s) (decided more)
+  unfolding takeTests more
+  apart = joined (packetTests s) more (0, 0)
+
+  module _ {judged : Judged} (told : judged ≡ judgeOf s) where
+    number : judged .test ≡ decided (packetTests s) .0
+    unfolding judgeOf
+    number = ap (λ (j : Judged). j .test) told
+
+    pub by-packet : (judged .test ≡ 0 → ⊥) → {r : Admitted} → r ≡ record { refusal = judged .test; end = end } → Admits w s next end r w
+    by-packet named is =
+        let d : decided (takeTests x s) .0 ≡ judged .test =
+        ap (λ (p : ℕ × ℕ). p .0) (apart ∙ decides (packetTests s) (decided more) (λ e. named (number ∙ e))) ∙ sym number in
+        subst (λ (a : Admitted). Admits w s next end a w) (sym is) (refused (judged .test) d named)
+
+    module _ (passed : judged .test ≡ 0) where
+      zero-tests : decided (packetTests s) .0 ≡ 0
+      zero-tests = sym number ∙ passed
+
+      rest : decided (takeTests x s) ≡ decided more
+      rest = apart ∙ passes (packetTests s) (decided more) (packet-numbered s) zero-tests
+
+      split : (decided (headerTests s) .0 ≡ 0) × (decided (unlessHeartbeat (header.heartbeat (headerIn s .flag)) (bodyTests (walkFrom (headerIn s .messages) 12 s) (headerIn s .seq) (headerIn s .messages))) .0 ≡ 0)
+      unfolding packetTests
+      split = second (headerTests s) (unlessHeartbeat (header.heartbeat (headerIn s .flag)) (bodyTests (walkFrom (headerIn s .messages) 12 s) (headerIn s .seq) (headerIn s .messages))) (header-numbered s) zero-tests
+
+      pub long : 12 ≤ length s
+      unfolding headerTests
+      long = ltb-false (length s) 12 (first-not (ltb (length s) 12) 1 0 ((ltb 1472 (length s), (2, 0)) ∷ (not (eqb (headerIn s .size) (length s)), (3, 0)) ∷ header.flagsOf (headerIn s)) (λ z. omega arith) (split .0))
+
+      module _ {head : Header} (read : head ≡ headerIn s) where
+        flag : (b : Bool) → eqb (head .flag % 2) 1 ≡ b → header.heartbeat (headerIn s .flag) ≡ b
+        flag b e = ap (λ (h : Header). eqb (h .flag % 2) 1) (sym read) ∙ e
+
+        -- a heartbeat
+        pub beats : head .flag % 2 ≡ 1 → {to : ℕ} {r : Admitted} → to ≡ max end (head .seq) → r ≡ record { refusal = 0; end = to } → Admits w s next end r w
+        unfolding more packetIn keep
+        beats h {to} ends is =
+            let hb : header.heartbeat (headerIn s .flag) ≡ true = flag true (eq-eqb (head .flag % 2) 1 h) in
+            let d : decided (takeTests x s) .0 ≡ 0 = ap (λ (p : ℕ × ℕ). p .0) (rest ∙ ap (λ (b : Bool). decided (unlessHeartbeat b (waitTests x s))) hb) in
+            let p : packetIn s ≡ heartbeat (headerIn s .seq) = ap (λ (b : Bool). cond b (heartbeat (headerIn s .seq)) (packet (headerIn s .seq) (map (bytesAt s) (framesIn s)))) hb in
+            let seq : head .seq ≡ headerIn s .seq = ap (λ (h : Header). h .seq) read in
+            let k : keep x (packetIn s) ≡ record { next = next; end = max end (headerIn s .seq); waiting = waitingOf w next; tables = tt } = ap (keep x) p ∙ keep-heartbeat x (headerIn s .seq) in
+            subst (λ (a : Admitted). Admits w s next end a w) (sym is)
+            (taken d
+            (ends ∙ ap (max end) seq ∙ sym (ap (λ (y : Session (List ℕ) (Unit {0})). y .end) k))
+            (neat .same ∙ sym (ap (λ (y : Session (List ℕ) (Unit {0})). windowFor (y .waiting) next) k)))
+
+        module _ (other : head .flag % 2 ≡ 1 → ⊥) where
+          hb : header.heartbeat (headerIn s .flag) ≡ false
+          hb = flag false (ne-eqb (head .flag % 2) 1 other)
+
+          waits : decided (takeTests x s) ≡ decided (waitTests x s)
+          unfolding more
+          waits = rest ∙ ap (λ (b : Bool). decided (unlessHeartbeat b (waitTests x s))) hb
+
+          is-packet : packetIn s ≡ packet (headerIn s .seq) (map (bytesAt s) (framesFrom (headerIn s .messages) 12 s))
+          unfolding packetIn
+          is-packet = ap (λ (b : Bool). cond b (heartbeat (headerIn s .seq)) (packet (headerIn s .seq) (map (bytesAt s) (framesIn s)))) hb
+
+          far : (b : Bool) → leb (next + 256) (lastOf (head .seq) (head .messages)) ≡ b → nine x s .0 ≡ b
+          far b e = ap (λ (h : Header). leb (next + 256) (lastOf (h .seq) (h .messages))) (sym read) ∙ e
+
+          pub by-nine : next + 256 < head .seq + head .messages → {r : Admitted} → r ≡ record { refusal = 9; end = end } → Admits w s next end r w
+          by-nine h is =
+              let n : nine x s .0 ≡ true = far true (le-leb (next + 256) (lastOf (head .seq) (head .messages)) (omega arith)) in
+              let d : decided (takeTests x s) .0 ≡ 9 = ap (λ (p : ℕ × ℕ). p .0) (waits ∙ ap (λ (b : Bool). decided ((b, (9, 2)) ∷ ten x s ∷ [])) n) in
+              subst (λ (a : Admitted). Admits w s next end a w) (sym is) (refused 9 d (λ z. omega arith))
+
+          module _ (near : head .seq + head .messages ≤ next + 256) where
+            within : nine x s .0 ≡ false
+            within = far false (lt-leb (next + 256) (lastOf (head .seq) (head .messages)) (omega arith))
+
+            pub passes-on : Passed s next (head .seq) (head .messages)
+            unfolding bodyTests
+            passes-on =
+                let body : decided (bodyTests (walkFrom (headerIn s .messages) 12 s) (headerIn s .seq) (headerIn s .messages)) .0 ≡ 0 =
+                subst (λ (b : Bool). decided (unlessHeartbeat b (bodyTests (walkFrom (headerIn s .messages) 12 s) (headerIn s .seq) (headerIn s .messages))) .0 ≡ 0) hb (split .1) in
+                record {
+                  walk =
+                      ap (λ (h : Header). walkFrom (h .messages) 12 s) read
+                      ∙ unbroken (walkFrom (headerIn s .messages) 12 s) (first-not (isBroken (walkFrom (headerIn s .messages) 12 s)) 7 (faultOf (walkFrom (headerIn s .messages) 12 s)) ((ltb 4294967295 (lastOf (headerIn s .seq) (headerIn s .messages)), (8, 2)) ∷ []) (λ z. omega arith) body);
+                  long = long;
+                  near = near;
+                }
+
+            module _ {differ : Bool} (seen : differ ≡ isSome (differFrom (waitingOf w next) (head .seq) (framesFrom (head .messages) 12 s) s)) where
+              tenth : (b : Bool) → differ ≡ b → ten x s .0 ≡ b
+              tenth b e = ap (λ (h : Header). isSome (differFrom (waitingOf w next) (h .seq) (framesFrom (h .messages) 12 s) s)) (sym read) ∙ sym seen ∙ e
+
+              tested : (b : Bool) → differ ≡ b → decided (takeTests x s) .0 ≡ decided ((b, (10, ten x s .1 .1)) ∷ []) .0
+              tested b e =
+                  ap (λ (p : ℕ × ℕ). p .0)
+                  (waits ∙ ap (λ (c : Bool). decided ((c, (9, 2)) ∷ ten x s ∷ [])) within ∙ ap (λ (c : Bool). decided ((c, (10, ten x s .1 .1)) ∷ [])) (tenth b e))
+
+              pub by-ten : differ ≡ true → {r : Admitted} → r ≡ record { refusal = 10; end = end } → Admits w s next end r w
+              by-ten e is = subst (λ (a : Admitted). Admits w s next end a w) (sym is) (refused 10 (tested true e) (λ z. omega arith))
+
+              pub keeps : differ ≡ false → {after : List ℕ} {to : ℕ} {r : Admitted}
+                  → after ≡ windowFor (keep (stateOf w next next) (packet (head .seq) (map (bytesAt s) (framesFrom (head .messages) 12 s))) .waiting) next
+                  → to ≡ max end (head .seq + head .messages) → r ≡ record { refusal = 0; end = to } → Admits w s next end r after
+              unfolding keep
+              keeps e {after} {to} is ends answer =
+                  let p : packetIn s ≡ packet (head .seq) (map (bytesAt s) (framesFrom (head .messages) 12 s)) =
+                  is-packet ∙ ap (λ (h : Header). packet (h .seq) (map (bytesAt s) (framesFrom (h .messages) 12 s))) (sym read) in
+                  let n : length (map (bytesAt s) (framesFrom (head .messages) 12 s)) ≡ head .messages =
+                  length-map (framesFrom (head .messages) 12 s) (bytesAt s) ∙ length-frames (head .messages) 12 s in
+                  subst (λ (a : Admitted). Admits w s next end a after) (sym answer)
+                  (taken (tested false e)
+                  (ends ∙ sym (ap (λ (q : Packet (List ℕ)). keep x q .end) p ∙ ap (λ (k : ℕ). max end (head .seq + k)) n))
+                  (is
+                  ∙ ap (λ (f : ℕ → Option (List ℕ)). windowFor f next) (same-kept (stateOf w next next) x (packet (head .seq) (map (bytesAt s) (framesFrom (head .messages) 12 s))) refl refl)
+                  ∙ sym (ap (λ (q : Packet (List ℕ)). windowFor (keep x q .waiting) next) p)))

@@ -1,0 +1,9 @@
+-- Laws of `taking`'s definitions.
+pub mod Accepted
+pub mod Whole
+pub mod Windows
+pub mod Walks
+pub mod Keeps
+pub mod Differs
+pub mod Admits
+pub mod Passing

@@ -1,0 +1,61 @@
+-- Document 01, "Taking a packet", on the window alone: what waits in it, and what it holds once a packet is kept.
+-- Assumes nothing.
+use mathlib.Core.Path.{_≡_}
+use mathlib.Core.List.{List}
+use mathlib.Core.Option.{Option, none, some}
+use Prim.Native.Nat.{ℕ, _+_, _≤_, _<_}
+use lib.ListN.{length}
+use Rattle.wire.specs.Number.{part}
+use Rattle.merge.specs.Session.{Packet, Session, keep}
+use Rattle.merge.specs.Places.{waitingIn, numberAt}
+use Rattle.packet.specs.Header.{decided}
+use Rattle.packet.specs.Walk.{walkFrom}
+use Rattle.packet.specs.declared.walk.Walked.the-variants as walked
+use Rattle.waiting.specs.Window.{waitsAt, windowOf}
+use Rattle.book.specs.Applying.{Whole}
+use Rattle.taking.specs.Taking.{judge, takeTests}
+use Rattle.taking.specs.declared.admitting.Admitted.{Admitted}
+
+-- what waits under a number, by a window of which next is the first number
+unfoldable pub waitingOf : List ℕ → ℕ → ℕ → Option (List ℕ)
+waitingOf window next = waitingIn 256 (waitsAt window) next
+
+-- the one window that holds what waits from next on
+unfoldable pub windowFor : (ℕ → Option (List ℕ)) → ℕ → List ℕ
+windowFor waiting next = windowOf (λ place. waiting (numberAt 256 next place))
+
+-- a window by itself, as a session that has no tables
+abbrev pub stateOf : List ℕ → ℕ → ℕ → Session (List ℕ) (Unit {0})
+stateOf window next end = record { next = next; end = end; waiting = waitingOf window next; tables = tt }
+
+-- the rule of a window: it is the one for what waits in it, and that is whole messages
+pub record Neat (window : List ℕ) (next : ℕ) : Type 0 where
+  pub same : window ≡ windowFor (waitingOf window next) next
+  pub whole : (k : ℕ) (m : List ℕ) → waitingOf window next k ≡ some m → Whole m
+  pub size : length window ≡ 32768
+  pub top : next ≤ 4294967296
+
+-- a message of a packet: where it lies, and that it is whole
+pub record Framed (s : List ℕ) (at size : ℕ) : Type 0 where
+  pub within : at + size ≤ length s
+  pub most : size ≤ 128
+  pub whole : Whole (part s at size)
+
+-- a packet that passed 7 to 9: its messages are whole, its numbers within the window
+pub record Passed (s : List ℕ) (next first messages : ℕ) : Type 0 where
+  pub walk : walkFrom messages 12 s ≡ walked.Whole
+  pub long : 12 ≤ length s
+  pub near : first + messages ≤ next + 256
+
+module _ {Table : Type 0} where
+  -- the session with a packet kept, if it is one that is taken
+  unfoldable pub keptIf : Session (List ℕ) Table → Option (Packet (List ℕ)) → Session (List ℕ) Table
+  keptIf x none = x
+  keptIf x (some p) = keep x p
+
+  abbrev pub keptBy : Session (List ℕ) Table → List ℕ → Session (List ℕ) Table
+  keptBy x s = keptIf x (judge x s)
+
+  -- the answer: the test that refuses the packet, 0 where none does, and end behind it
+  unfoldable pub admittedOf : Session (List ℕ) Table → List ℕ → Admitted
+  admittedOf x s = record { refusal = decided (takeTests x s) .0; end = keptBy x s .end }
