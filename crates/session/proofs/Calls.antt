@@ -130,7 +130,7 @@ answer-some applied refusal e = sym (ap (λ (b : Bool). cond b (Applied applied)
 
 -- ---- a burst
 
-parts-bytes : (s : List ℕ) → Bytes s → (fs : List (ℕ × ℕ)) → AllBytes (map (bytesAt s) fs)
+pub parts-bytes : (s : List ℕ) → Bytes s → (fs : List (ℕ × ℕ)) → AllBytes (map (bytesAt s) fs)
 parts-bytes s bytes [] = tt
 parts-bytes s bytes (f ∷ fs) = (part-bytes s (f .0) (f .1) bytes, parts-bytes s bytes fs)
 

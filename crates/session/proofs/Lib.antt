@@ -3,3 +3,4 @@ pub mod Frames
 pub mod States
 pub mod Runs
 pub mod Calls
+pub mod Demand3

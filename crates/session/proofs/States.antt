@@ -167,25 +167,29 @@ stands r =
 pub meaning : {s : Session} (h : Stands s) → view s ≡ h .state
 meaning h = ap view (h .same) ∙ view-rep (h .good)
 
+pub ruled-means : {s : Session} (r : Ruled s) → view s ≡ takeAll overnight (opened feed (r .number)) (r .handed)
+unfolding stands
+ruled-means r = meaning (stands r)
+
 -- the rule is kept
-all-more : (ss ts : List (List ℕ)) → AllBytes ss → AllBytes ts → AllBytes (ss ++ ts)
+pub all-more : (ss ts : List (List ℕ)) → AllBytes ss → AllBytes ts → AllBytes (ss ++ ts)
 all-more [] ts a b = b
 all-more (s ∷ ss) ts a b = (a .0, all-more ss ts (a .1) b)
 
-take-more : (ss ts : List (List ℕ)) (x : State) → takeAll overnight x (ss ++ ts) ≡ takeAll overnight (takeAll overnight x ss) ts
+pub take-more : (ss ts : List (List ℕ)) (x : State) → takeAll overnight x (ss ++ ts) ≡ takeAll overnight (takeAll overnight x ss) ts
 unfolding takeAll
 take-more [] ts x = refl
 take-more (s ∷ ss) ts x = take-more ss ts (takeOne overnight x s)
 
 pub ruled-more : {s : Session} → Ruled s → (ts : List (List ℕ)) → AllBytes ts → Ruled (rep (takeAll overnight (view s) ts))
-unfolding stands takeAll
+unfolding takeAll
 ruled-more {s} r ts bytes =
     record {
       number = r .number;
       small = r .small;
       handed = r .handed ++ ts;
       bytes = all-more (r .handed) ts (r .bytes) bytes;
-      given = ap rep (ap (λ (x : State). takeAll overnight x ts) (meaning (stands r)) ∙ sym (take-more (r .handed) ts (opened feed (r .number))));
+      given = ap rep (ap (λ (x : State). takeAll overnight x ts) (ruled-means r) ∙ sym (take-more (r .handed) ts (opened feed (r .number))));
     }
 
 pub ruled-one : {s : Session} → Ruled s → (t : List ℕ) → Bytes t → Ruled (rep (takeOne overnight (view s) t))

@@ -3,3 +3,4 @@ pub mod Meaning
 pub mod Bursts
 pub mod Turns
 pub mod Asking
+pub mod Given
