@@ -1,0 +1,2 @@
+-- Each call's contract determines it.
+pub mod Determined
