@@ -5,7 +5,6 @@
 // proofs/Trips.antt has the two round trips: written reads back the same, and what was read is
 // written back to its own bytes.
 mod place;
-mod put;
 
 pub use place::Written;
 pub use place::write;

@@ -7,12 +7,12 @@ ghost use Rattle.wire.specs.Layout.{numberIs, putRow, widthOf};
 ghost use Rattle.message.specs.Layouts as layouts;
 ghost use Rattle.message.specs.Row.{typeOfTerms};
 ghost use Rattle.writing.specs.Writing.{answerOf, bufferAfter, messageSize, writeOf, writtenType};
-use crate::put;
 use message::Body;
 use message::Message;
 use message::Terms;
 use message::rules;
 use message::table;
+use putting::put;
 
 pub enum Written {
     Count(usize),

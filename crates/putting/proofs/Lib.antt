@@ -1,0 +1,2 @@
+-- Laws that the proofs of `putting` cite.
+pub mod ByKind

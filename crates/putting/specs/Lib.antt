@@ -1,0 +1,1 @@
+-- This crate defines nothing: its contracts cite `message`'s rows and `wire`'s layouts.
