@@ -38,50 +38,54 @@ use Rattle.session.proofs.asking.inside.Reads as session-inside
 use Rattle.session.proofs.asking.gap.Reads as session-gap
 use Rattle.session.proofs.asking.requests.Reads as session-requests
 
+-- of any two answers that a contract admits for one argument, both are the same
+abbrev Once : {K : Type 0} {A R S : K → Type 0} → ((κs : K) → A κs → R κs → S κs → Type 0) → Type 0
+Once {K} {A} {R} {S} contract = (κs : K) (a : A κs) (one other : R κs) (s t : S κs) → contract κs a one s → contract κs a other t → one ≡ other
+
 -- the one law: two answers that are both what the definition names are one
 pub once {ℓ} : {A : Type ℓ} {named one other : A} → one ≡ named → other ≡ named → one ≡ other
 once e f = e ∙ sym f
 
 -- ---- fields
 
-pub fields-value-once : (κs : _) (a : _) (one other : _) (s t : _) → fields-value.Post κs a one s → fields-value.Post κs a other t → one ≡ other
-fields-value-once κs a one other s t p q = once p q
+pub fields-value-once : Once fields-value.Post
+fields-value-once κs a one other s t = once
 
-pub fields-good-id-once : (κs : _) (a : _) (one other : _) (s t : _) → fields-good-id.Post κs a one s → fields-good-id.Post κs a other t → one ≡ other
-fields-good-id-once κs a one other s t p q = once p q
+pub fields-good-id-once : Once fields-good-id.Post
+fields-good-id-once κs a one other s t = once
 
-pub fields-good-symbol-once : (κs : _) (a : _) (one other : _) (s t : _) → fields-good-symbol.Post κs a one s → fields-good-symbol.Post κs a other t → one ≡ other
-fields-good-symbol-once κs a one other s t p q = once p q
+pub fields-good-symbol-once : Once fields-good-symbol.Post
+fields-good-symbol-once κs a one other s t = once
 
-pub fields-good-side-once : (κs : _) (a : _) (one other : _) (s t : _) → fields-good-side.Post κs a one s → fields-good-side.Post κs a other t → one ≡ other
-fields-good-side-once κs a one other s t p q = once p q
+pub fields-good-side-once : Once fields-good-side.Post
+fields-good-side-once κs a one other s t = once
 
-pub fields-good-trade-side-once : (κs : _) (a : _) (one other : _) (s t : _) → fields-good-trade-side.Post κs a one s → fields-good-trade-side.Post κs a other t → one ≡ other
-fields-good-trade-side-once κs a one other s t p q = once p q
+pub fields-good-trade-side-once : Once fields-good-trade-side.Post
+fields-good-trade-side-once κs a one other s t = once
 
-pub fields-good-quantity-once : (κs : _) (a : _) (one other : _) (s t : _) → fields-good-quantity.Post κs a one s → fields-good-quantity.Post κs a other t → one ≡ other
-fields-good-quantity-once κs a one other s t p q = once p q
+pub fields-good-quantity-once : Once fields-good-quantity.Post
+fields-good-quantity-once κs a one other s t = once
 
-pub fields-good-price-once : (κs : _) (a : _) (one other : _) (s t : _) → fields-good-price.Post κs a one s → fields-good-price.Post κs a other t → one ≡ other
-fields-good-price-once κs a one other s t p q = once p q
+pub fields-good-price-once : Once fields-good-price.Post
+fields-good-price-once κs a one other s t = once
 
-pub fields-good-inside-price-once : (κs : _) (a : _) (one other : _) (s t : _) → fields-good-inside-price.Post κs a one s → fields-good-inside-price.Post κs a other t → one ≡ other
-fields-good-inside-price-once κs a one other s t p q = once p q
+pub fields-good-inside-price-once : Once fields-good-inside-price.Post
+fields-good-inside-price-once κs a one other s t = once
 
-pub fields-good-unsolicited-once : (κs : _) (a : _) (one other : _) (s t : _) → fields-good-unsolicited.Post κs a one s → fields-good-unsolicited.Post κs a other t → one ≡ other
-fields-good-unsolicited-once κs a one other s t p q = once p q
+pub fields-good-unsolicited-once : Once fields-good-unsolicited.Post
+fields-good-unsolicited-once κs a one other s t = once
 
-pub fields-good-session-once : (κs : _) (a : _) (one other : _) (s t : _) → fields-good-session.Post κs a one s → fields-good-session.Post κs a other t → one ≡ other
-fields-good-session-once κs a one other s t p q = once p q
+pub fields-good-session-once : Once fields-good-session.Post
+fields-good-session-once κs a one other s t = once
 
 -- ---- message
 
-pub message-read-once : (κs : _) (a : _) (one other : _) (s t : _) → message-read.Post κs a one s → message-read.Post κs a other t → one ≡ other
-message-read-once κs a one other s t p q = once p q
+pub message-read-once : Once message-read.Post
+message-read-once κs a one other s t = once
 
 -- ---- writing
 
-pub writing-write-once : (κs : _) (a : _) (one other : _) (s t : _) → writing-write.Post κs a one s → writing-write.Post κs a other t → one ≡ other
+pub writing-write-once : Once writing-write.Post
 writing-write-once κs a one other s t p q = once (p .0) (q .0)
 
 pub writing-write-memory : (κs : _) (a : _) (one other : _) (s t : _) → writing-write.Post κs a one s → writing-write.Post κs a other t → now (s .1 .0) ≡ now (t .1 .0)
@@ -89,85 +93,85 @@ writing-write-memory κs a one other s t p q = once (p .1) (q .1)
 
 -- ---- packet
 
-pub packet-write-header-once : (κs : _) (a : _) (one other : _) (s t : _) → packet-write-header.Post κs a one s → packet-write-header.Post κs a other t → one ≡ other
+pub packet-write-header-once : Once packet-write-header.Post
 packet-write-header-once κs a one other s t p q = once (p .0) (q .0)
 
 pub packet-write-header-memory : (κs : _) (a : _) (one other : _) (s t : _) → packet-write-header.Post κs a one s → packet-write-header.Post κs a other t → now (s .1 .0) ≡ now (t .1 .0)
 packet-write-header-memory κs a one other s t p q = once (p .1) (q .1)
 
-pub packet-read-header-once : (κs : _) (a : _) (one other : _) (s t : _) → packet-read-header.Post κs a one s → packet-read-header.Post κs a other t → one ≡ other
-packet-read-header-once κs a one other s t p q = once p q
+pub packet-read-header-once : Once packet-read-header.Post
+packet-read-header-once κs a one other s t = once
 
-pub packet-judge-once : (κs : _) (a : _) (one other : _) (s t : _) → packet-judge.Post κs a one s → packet-judge.Post κs a other t → one ≡ other
-packet-judge-once κs a one other s t p q = once p q
+pub packet-judge-once : Once packet-judge.Post
+packet-judge-once κs a one other s t = once
 
 -- ---- reader
 
-pub reader-judge-once : (κs : _) (a : _) (one other : _) (s t : _) → reader-judge.Post κs a one s → reader-judge.Post κs a other t → one ≡ other
-reader-judge-once κs a one other s t p q = once p q
+pub reader-judge-once : Once reader-judge.Post
+reader-judge-once κs a one other s t = once
 
-pub reader-frame-of-once : (κs : _) (a : _) (one other : _) (s t : _) → reader-frame-of.Post κs a one s → reader-frame-of.Post κs a other t → one ≡ other
-reader-frame-of-once κs a one other s t p q = once p q
+pub reader-frame-of-once : Once reader-frame-of.Post
+reader-frame-of-once κs a one other s t = once
 
 -- ---- book
 
-pub book-fresh-once : (κs : _) (a : _) (one other : _) (s t : _) → book-fresh.Post κs a one s → book-fresh.Post κs a other t → one ≡ other
-book-fresh-once κs a one other s t p q = once p q
+pub book-fresh-once : Once book-fresh.Post
+book-fresh-once κs a one other s t = once
 
-pub book-order-once : (κs : _) (a : _) (one other : _) (s t : _) → book-order.Post κs a one s → book-order.Post κs a other t → one ≡ other
-book-order-once κs a one other s t p q = once p q
+pub book-order-once : Once book-order.Post
+book-order-once κs a one other s t = once
 
-pub book-best-once : (κs : _) (a : _) (one other : _) (s t : _) → book-best.Post κs a one s → book-best.Post κs a other t → one ≡ other
-book-best-once κs a one other s t p q = once p q
+pub book-best-once : Once book-best.Post
+book-best-once κs a one other s t = once
 
-pub book-inside-once : (κs : _) (a : _) (one other : _) (s t : _) → book-inside.Post κs a one s → book-inside.Post κs a other t → one ≡ other
-book-inside-once κs a one other s t p q = once p q
+pub book-inside-once : Once book-inside.Post
+book-inside-once κs a one other s t = once
 
-pub book-code-once : (κs : _) (a : _) (one other : _) (s t : _) → book-code.Post κs a one s → book-code.Post κs a other t → one ≡ other
-book-code-once κs a one other s t p q = once p q
+pub book-code-once : Once book-code.Post
+book-code-once κs a one other s t = once
 
-pub book-faults-once : (κs : _) (a : _) (one other : _) (s t : _) → book-faults.Post κs a one s → book-faults.Post κs a other t → one ≡ other
-book-faults-once κs a one other s t p q = once p q
+pub book-faults-once : Once book-faults.Post
+book-faults-once κs a one other s t = once
 
 -- ---- session
 
-pub session-open-once : (κs : _) (a : _) (one other : _) (s t : _) → session-open.Post κs a one s → session-open.Post κs a other t → one ≡ other
+pub session-open-once : Once session-open.Post
 session-open-once κs a one other s t p q = once (p .0) (q .0)
 
-pub session-take-once : (κs : _) (a : _) (one other : _) (s t : _) → session-take.Post κs a one s → session-take.Post κs a other t → one ≡ other
+pub session-take-once : Once session-take.Post
 session-take-once κs a one other s t p q = once (p .0) (q .0)
 
-pub session-burst-once : (κs : _) (a : _) (one other : _) (s t : _) → session-burst.Post κs a one s → session-burst.Post κs a other t → one ≡ other
+pub session-burst-once : Once session-burst.Post
 session-burst-once κs a one other s t p q = once (p .0) (q .0)
 
 pub session-burst-memory : (κs : _) (a : _) (one other : _) (s t : _) → session-burst.Post κs a one s → session-burst.Post κs a other t → now (s .1 .1 .0) ≡ now (t .1 .1 .0)
 session-burst-memory κs a one other s t p q = once (p .1 .0) (q .1 .0)
 
-pub session-next-once : (κs : _) (a : _) (one other : _) (s t : _) → session-next.Post κs a one s → session-next.Post κs a other t → one ≡ other
-session-next-once κs a one other s t p q = once p q
+pub session-next-once : Once session-next.Post
+session-next-once κs a one other s t = once
 
-pub session-end-once : (κs : _) (a : _) (one other : _) (s t : _) → session-end.Post κs a one s → session-end.Post κs a other t → one ≡ other
-session-end-once κs a one other s t p q = once p q
+pub session-end-once : Once session-end.Post
+session-end-once κs a one other s t = once
 
-pub session-code-once : (κs : _) (a : _) (one other : _) (s t : _) → session-code.Post κs a one s → session-code.Post κs a other t → one ≡ other
-session-code-once κs a one other s t p q = once p q
+pub session-code-once : Once session-code.Post
+session-code-once κs a one other s t = once
 
-pub session-faults-once : (κs : _) (a : _) (one other : _) (s t : _) → session-faults.Post κs a one s → session-faults.Post κs a other t → one ≡ other
-session-faults-once κs a one other s t p q = once p q
+pub session-faults-once : Once session-faults.Post
+session-faults-once κs a one other s t = once
 
-pub session-order-once : (κs : _) (a : _) (one other : _) (s t : _) → session-order.Post κs a one s → session-order.Post κs a other t → one ≡ other
-session-order-once κs a one other s t p q = once p q
+pub session-order-once : Once session-order.Post
+session-order-once κs a one other s t = once
 
-pub session-best-once : (κs : _) (a : _) (one other : _) (s t : _) → session-best.Post κs a one s → session-best.Post κs a other t → one ≡ other
-session-best-once κs a one other s t p q = once p q
+pub session-best-once : Once session-best.Post
+session-best-once κs a one other s t = once
 
-pub session-inside-once : (κs : _) (a : _) (one other : _) (s t : _) → session-inside.Post κs a one s → session-inside.Post κs a other t → one ≡ other
-session-inside-once κs a one other s t p q = once p q
+pub session-inside-once : Once session-inside.Post
+session-inside-once κs a one other s t = once
 
-pub session-gap-once : (κs : _) (a : _) (one other : _) (s t : _) → session-gap.Post κs a one s → session-gap.Post κs a other t → one ≡ other
-session-gap-once κs a one other s t p q = once p q
+pub session-gap-once : Once session-gap.Post
+session-gap-once κs a one other s t = once
 
-pub session-requests-once : (κs : _) (a : _) (one other : _) (s t : _) → session-requests.Post κs a one s → session-requests.Post κs a other t → one ≡ other
+pub session-requests-once : Once session-requests.Post
 session-requests-once κs a one other s t p q = once (p .0) (q .0)
 
 pub session-requests-memory : (κs : _) (a : _) (one other : _) (s t : _) → session-requests.Post κs a one s → session-requests.Post κs a other t → now (s .1 .0) ≡ now (t .1 .0)

@@ -28,11 +28,12 @@ use Rattle.book.specs.Tables.{fresh}
 use Rattle.book.specs.declared.tables.Book.{Book}
 use Rattle.taking.specs.Keeping.{waitingOf, windowFor}
 use Rattle.taking.specs.Taking.{bytesAt, takeTests, waitTests}
+use Rattle.taking.specs.Turns.{lengthAt}
 use Rattle.taking.proofs.Windows.{waits-place}
 use Rattle.session.specs.Meaning.{AllBytes, Ruled, State, feed, overnight, rep, view}
 use Rattle.session.specs.Asking.{gapFrom, gapsOf, lacks, limit, missing, placed}
-use Rattle.session.specs.Bursts.{answerOf, answered, answersAfter, appliedOf, burstFrom, burstOf, framesOf, lengthAt, packetsIn, packetsOf, refusalOf, rowOf, rowsOf, takenOf}
-use Rattle.session.specs.Turns.{Runs}
+use Rattle.session.specs.Bursts.{answerOf, answered, answersAfter, appliedOf, burstFrom, burstOf, framesOf, packetsIn, packetsOf, refusalOf, rowOf, rowsOf, takenOf}
+use Rattle.session.specs.Bursts.{Runs}
 use Rattle.session.specs.declared.packets.Answer.{Answer}
 use Rattle.session.specs.declared.packets.Answer.the-variants.{Applied, Refused}
 use Rattle.session.specs.declared.packets.Count.{Count}

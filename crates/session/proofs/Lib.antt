@@ -1,5 +1,4 @@
 -- Laws of `session`'s definitions.
-pub mod Frames
 pub mod States
 pub mod Runs
 pub mod Calls

@@ -34,11 +34,12 @@ use Rattle.taking.specs.Keeping.{Neat, admittedOf, keptBy, keptIf, stateOf, wai
 use Rattle.taking.specs.Taking.{bytesAt, judge, takeTests}
 use Rattle.taking.proofs.Windows.{Within, fine, in-places, place-free, place-used, placed, same-window, waiting-for, waits-place}
 use Rattle.session.specs.Meaning.{State, feed, overnight, rep, view, Ruled}
-use Rattle.session.specs.Bursts.{burstFrom, framesOf, lengthAt, packetsOf, refusalOf, rowOf, rowWith, rowsOf}
-use Rattle.session.specs.Turns.{Closes, Follows, Lies, Runs, behind, closing, frameAt, packetAt, turnOf}
+use Rattle.session.specs.Bursts.{burstFrom, framesOf, packetsOf, refusalOf, rowOf, rowWith, rowsOf}
+use Rattle.session.specs.Bursts.{Runs}
+use Rattle.taking.specs.Turns.{Closes, Follows, Lies, behind, closing, frameAt, lengthAt, packetAt, turnOf}
 use Rattle.session.specs.declared.state.Session.{Session}
-use Rattle.session.specs.declared.turning.Turn.{Turn}
-use Rattle.session.proofs.Frames.{part-front, part-long}
+use Rattle.taking.specs.declared.turning.Turn.{Turn}
+use Rattle.taking.proofs.Frames.{part-front, part-long}
 use Rattle.session.proofs.States.{Good, Stands, good-kept, good-step, kept, meaning, neat, ready, stands, waits-below, within}
 
 -- ---- the packets that are left lie one behind the other

@@ -6,10 +6,11 @@ use mathlib.Core.List.{List, [], _∷_, _++_, map}
 use Prim.Native.Nat.{ℕ, zero, suc, _+_, _-_, _*_, _≤_}
 use lib.Dec.{eqb, leb, ltb}
 use lib.ListN.{length}
-use Rattle.wire.specs.Number.{num, part, splice}
+use Rattle.wire.specs.Number.{splice}
 use Rattle.merge.specs.Session.{takeAll, takeOne}
 use Rattle.packet.specs.Header.{decided}
 use Rattle.taking.specs.Taking.{bytesAt, takeTests}
+use Rattle.taking.specs.Turns.{lengthAt}
 use Rattle.session.specs.Meaning.{State, overnight, rep}
 use Rattle.session.specs.declared.packets.Answer.{Answer}
 use Rattle.session.specs.declared.packets.Answer.the-variants.{Applied, Refused}
@@ -38,10 +39,6 @@ abbrev pub takenOf : State → List ℕ → Taken
 takenOf x s = record { session = rep (takeOne overnight x s); answer = answerOf x s }
 
 -- ---- a burst
-
--- the length that stands before a packet
-abbrev pub lengthAt : List ℕ → ℕ → ℕ
-lengthAt s at = num (part s at 2)
 
 -- the whole packets of a burst from a place on, each behind its length: where each starts and how many bytes it has.
 -- At most n are looked for
@@ -81,3 +78,10 @@ burstOf x packets n =
 
 unfoldable pub answersAfter : State → List (List ℕ) → List ℕ → List ℕ
 answersAfter x packets answers = cond (ltb (length answers) (4 * length packets)) answers (splice answers 0 (rowsOf x packets))
+
+-- what the engine asks for: so many packets, at least one, and room for their answers
+pub record Runs (single : Bool) (s : List ℕ) (count n : ℕ) : Type 0 where
+  pub all : count ≡ length (framesOf single s)
+  pub some : 1 ≤ count
+  pub room : 4 * count ≤ n
+  pub big : n ≤ 18446744073709551615

@@ -4,4 +4,3 @@ pub mod asking;
 pub mod packets;
 pub mod running;
 pub mod state;
-pub mod turning;

@@ -1,10 +1,6 @@
 // Parts: the engine. It holds the tables and the window, and writes nothing but what a packet or a
 // message changes.
 use crate::state::Session;
-use crate::turning::begin;
-use crate::turning::close;
-use crate::turning::follow;
-use crate::turning::text_at;
 use book::applying::recorded;
 use book::deciding::Effect;
 use book::deciding::decide;
@@ -21,6 +17,10 @@ use book::reading::topic_of;
 use book::tables::no_order;
 use fields::digits;
 use message::table;
+use taking::turning::begin;
+use taking::turning::close;
+use taking::turning::follow;
+use taking::turning::text_at;
 use waiting::window;
 ghost use mathlib.Core.Path.{_≡_};
 ghost use lib.ListN.{length};
@@ -28,7 +28,7 @@ ghost use Rattle.wire.specs.Number.{splice};
 ghost use Rattle.merge.specs.Session.{takeAll};
 ghost use Rattle.session.specs.Meaning.{overnight, rep, view, Ruled};
 ghost use Rattle.session.specs.Bursts.{packetsOf, rowsOf};
-ghost use Rattle.session.specs.Turns.{Runs};
+ghost use Rattle.session.specs.Bursts.{Runs};
 
 // All packets of the lent bytes, one after the other: each is kept, then all is applied that can be.
 pub fn run(

@@ -7,3 +7,4 @@ pub mod Keeps
 pub mod Differs
 pub mod Admits
 pub mod Passing
+pub mod Frames

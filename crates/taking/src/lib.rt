@@ -1,4 +1,6 @@
-// Parts of taking a packet that need no tables: tests 9 and 10, and keeping its messages.
+// Parts of taking packets that need no tables: tests 9 and 10, keeping a packet's messages, and going
+// from one packet of a burst to the next.
 pub mod admitting;
 pub mod differing;
 pub mod keeping;
+pub mod turning;

@@ -13,7 +13,7 @@ use Rattle.book.specs.declared.deciding.Seen.{Seen}
 use Rattle.book.proofs.Steps.{Decided, seen-is, spot-within, put-few, put-naming, put-done, replace-within, replace-done, remove-within, remove-done, renew-room, renew-within, renew-done, enter-room, enter-few, enter-done, record-done, unchanged-done, fault-done}
 use Rattle.session.specs.Meaning.{overnight, view}
 use Rattle.session.specs.Bursts.{packetsOf, rowsOf}
-use Rattle.session.specs.declared.turning.Turn.{Turn}
+use Rattle.taking.specs.declared.turning.Turn.{Turn}
 use Rattle.session.proofs.Runs.{Going, Open, applied-text, bytes-of, closes, counted, ends, fewer, follows, goes-on, going, here, holds, keeps, length-text, less-turn, more, number-below, room-text, same-length, start-lies, start-neat, starts, whole-text}
 use Rattle.session.proofs.running.run.Statement.{statement}
 use Rattle.session.proofs.running.run.Tie as tie

@@ -1,13 +1,13 @@
 // Parts: from one packet of a burst to the next.
-use taking::admitting::admit;
+use crate::admitting::admit;
 ghost use mathlib.Core.Path.{_≡_};
 ghost use Prim.Native.Nat.{_+_, _-_, _<_};
 ghost use lib.ListN.{length};
 ghost use Rattle.wire.specs.Number.{part, splice};
 ghost use Rattle.message.specs.Table.{payloadTable};
 ghost use Rattle.waiting.specs.Window.{startOf};
 ghost use Rattle.taking.specs.Keeping.{stateOf, windowFor, keptBy, Neat};
-ghost use Rattle.session.specs.Turns.{frameAt, packetAt, turnOf, closing, Lies, Closes, Follows};
+ghost use Rattle.taking.specs.Turns.{frameAt, packetAt, turnOf, closing, Lies, Closes, Follows};
 
 // Where a burst is: how many packets have no answer yet, the one at hand among them; where the next
 // one's bytes begin; where the answer at hand goes; and of the packet at hand, next before it, its

@@ -2,9 +2,9 @@
 -- Assumes nothing.
 use native.Mathlib.Omega.{arith}
 use borrow.Author.Needs.{needs}
-use Rattle.session.proofs.Frames.{one-within, two-within, one-frame, two-frame}
-use Rattle.session.proofs.turning.frame_of.Statement.{statement}
-use Rattle.session.proofs.turning.frame_of.Tie as tie
+use Rattle.taking.proofs.Frames.{one-within, two-within, one-frame, two-frame}
+use Rattle.taking.proofs.turning.frame_of.Statement.{statement}
+use Rattle.taking.proofs.turning.frame_of.Tie as tie
 
 returns : tie.Need-returns
 returns c = one-frame (c .before .before .pre) (c .if1 .taken)

@@ -1,16 +1,18 @@
 -- Parts of a burst: where a packet lies, and the turn that it is given.
 -- Assumes nothing.
-use mathlib.Core.Path.{_≡_}
 use mathlib.Core.Bool.{Bool, true, false}
 use mathlib.Core.List.{List, [], _∷_}
-use Prim.Native.Nat.{ℕ, _+_, _-_, _*_, _≤_}
+use Prim.Native.Nat.{ℕ, _+_, _-_, _≤_}
 use lib.ListN.{length}
-use Rattle.wire.specs.Number.{part}
+use Rattle.wire.specs.Number.{num, part}
 use Rattle.merge.specs.Session as merge
 use Rattle.taking.specs.Keeping.{admittedOf}
-use Rattle.session.specs.Bursts.{framesOf, lengthAt}
-use Rattle.session.specs.declared.turning.Frame.{Frame}
-use Rattle.session.specs.declared.turning.Turn.{Turn}
+use Rattle.taking.specs.declared.turning.Frame.{Frame}
+use Rattle.taking.specs.declared.turning.Turn.{Turn}
+
+-- the length that stands before a packet
+abbrev pub lengthAt : List ℕ → ℕ → ℕ
+lengthAt s at = num (part s at 2)
 
 -- the packet at a place: the rest of the bytes, or what its length says
 abbrev pub frameAt : Bool → List ℕ → ℕ → Frame
@@ -55,10 +57,3 @@ pub record Follows (single : Bool) (s : List ℕ) (turn : Turn) : Type 0 where
   pub left : 1 ≤ turn .left
   pub place : turn .place + 4 ≤ 18446744073709551615
   pub lies : Lies single s (turn .at)
-
--- what the engine asks for: so many packets, at least one, and room for their answers
-pub record Runs (single : Bool) (s : List ℕ) (count n : ℕ) : Type 0 where
-  pub all : count ≡ length (framesOf single s)
-  pub some : 1 ≤ count
-  pub room : 4 * count ≤ n
-  pub big : n ≤ 18446744073709551615

@@ -3,10 +3,10 @@
 use native.Mathlib.Omega.{arith}
 use lib.ListN.{length-set}
 use Rattle.wire.proofs.Splice.{stored-splice}
-use Rattle.session.specs.Turns.{closing}
+use Rattle.taking.specs.Turns.{closing}
 use borrow.Author.Needs.{needs}
-use Rattle.session.proofs.turning.close.Statement.{statement}
-use Rattle.session.proofs.turning.close.Tie as tie
+use Rattle.taking.proofs.turning.close.Statement.{statement}
+use Rattle.taking.proofs.turning.close.Tie as tie
 
 returns : tie.Need-returns
 returns c = stored-splice (c .before .before .args .answers .now) (c .before .before .args .turn .place) (closing (c .before .before .args .turn) (c .before .before .args .next)) (c .before .before .pre .room)

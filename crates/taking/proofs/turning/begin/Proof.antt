@@ -2,9 +2,9 @@
 -- Assumes nothing.
 use native.Mathlib.Omega.{arith}
 use borrow.Author.Needs.{needs}
-use Rattle.session.proofs.Frames.{began, frame-stop, kept}
-use Rattle.session.proofs.turning.begin.Statement.{statement}
-use Rattle.session.proofs.turning.begin.Tie as tie
+use Rattle.taking.proofs.Frames.{began, frame-stop, kept}
+use Rattle.taking.proofs.turning.begin.Statement.{statement}
+use Rattle.taking.proofs.turning.begin.Tie as tie
 
 returns : tie.Need-returns
 returns c = (began (c .before .before .before .before .before .before .pre .1 .0) (c .before .before .before .before .frame-of .ensures) (c .before .before .before .before .before .before .args .window .now) (c .before .before .before .before .before .before .args .next) (c .before .before .before .before .before .before .args .end) (c .before .before .before .before .before .before .args .left) (c .before .before .before .before .before .before .args .place) (c .admit .ensures .0), kept (c .before .before .before .before .before .before .pre .1 .0) (c .before .before .before .before .frame-of .ensures) (c .before .before .before .before .before .before .args .window .now) (c .before .before .before .before .before .before .args .next) (c .before .before .before .before .before .before .args .end) (c .admit .ensures .1))

@@ -9,13 +9,12 @@ use lib.ListN.{length, getD, set, take, drop, replicate, drop-of-length-le, leng
 use lib.Seq.{paste}
 use Rattle.wire.specs.Number.{behind, part, splice}
 use Rattle.wire.proofs.Splice.{pasted-all, pasted-more}
-use Rattle.session.specs.Bursts.{lengthAt}
-use Rattle.session.specs.Turns.{frameAt, packetAt, turnOf, Lies}
-use Rattle.session.specs.declared.turning.Frame.{Frame}
-use Rattle.session.specs.declared.turning.Turn.{Turn}
+use Rattle.taking.specs.Turns.{frameAt, lengthAt, packetAt, turnOf, Lies}
+use Rattle.taking.specs.declared.turning.Frame.{Frame}
+use Rattle.taking.specs.declared.turning.Turn.{Turn}
 use Rattle.waiting.proofs.Agreeing.{lent}
 use Rattle.taking.specs.Keeping.{admittedOf, keptBy, stateOf, windowFor}
 use Rattle.taking.specs.declared.admitting.Admitted.{Admitted}
 
 module _ {single : Bool} {s : List ℕ} {at : ℕ} (lies : Lies single s at) where
   pub one-within : single ≡ true → at ≤ length s

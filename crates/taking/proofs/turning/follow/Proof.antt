@@ -1,8 +1,8 @@
 -- The packet behind the one at hand.
 -- Assumes nothing.
 use native.Mathlib.Omega.{arith}
-use Rattle.session.proofs.turning.follow.Statement.{statement}
-use Rattle.session.proofs.turning.follow.Tie as tie
+use Rattle.taking.proofs.turning.follow.Statement.{statement}
+use Rattle.taking.proofs.turning.follow.Tie as tie
 
 begin-requires : tie.Need-begin-requires
 begin-requires c κs = (c .before .before .before .before .pre .0, (c .before .before .before .before .pre .1 .0 .lies, c .before .before .before .before .pre .1 .1))

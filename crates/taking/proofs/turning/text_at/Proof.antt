@@ -3,9 +3,9 @@
 use Prim.Native.Nat.{_-_}
 use native.Mathlib.Omega.{arith}
 use borrow.Author.Needs.{needs}
-use Rattle.session.proofs.Frames.{Copied, copied-none, copied-more, copied-all}
-use Rattle.session.proofs.turning.text_at.Statement.{statement}
-use Rattle.session.proofs.turning.text_at.Tie as tie
+use Rattle.taking.proofs.Frames.{Copied, copied-none, copied-more, copied-all}
+use Rattle.taking.proofs.turning.text_at.Statement.{statement}
+use Rattle.taking.proofs.turning.text_at.Tie as tie
 
 abbrev Inv-loop : tie.InvT-loop
 Inv-loop window place start text₀ k₀ text k = Copied window text start k
