@@ -1,2 +1,0 @@
--- What the examples' loops keep.
-mod Replays
