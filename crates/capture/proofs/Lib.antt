@@ -1,0 +1,2 @@
+-- Laws of `capture`'s definitions.
+mod Heads

@@ -1,0 +1,54 @@
+-- `text::hex::digit_of` meets its contract.
+-- Assumes nothing.
+use borrow.Author.Tests.{lt-ltb, le-ltb}
+use Rattle.text.specs.Hex.{digitOf}
+use borrow.Author.Needs.{needs}
+use Rattle.text.proofs.hex.digit_of.Statement.{statement}
+use Rattle.text.proofs.hex.digit_of.Tie as tie
+
+returns : tie.Need-returns
+unfolding digitOf
+returns c = record { is = simp (lt-ltb _ _ (c .if1 .taken)); most = search needs }
+
+returns-2 : tie.Need-returns-2
+unfolding digitOf
+returns-2 c = record { is = simp (le-ltb _ _ (c .before .if1 .left), lt-ltb _ _ (c .if2 .taken)); most = search needs }
+
+returns-3 : tie.Need-returns-3
+unfolding digitOf
+returns-3 c =
+    record { is = simp (le-ltb _ _ (c .before .before .if1 .left), le-ltb _ _ (c .before .if2 .left), lt-ltb _ _ (c .if3 .taken)); most = search needs }
+
+returns-4 : tie.Need-returns-4
+unfolding digitOf
+returns-4 c =
+    record { is = simp (le-ltb _ _ (c .before .before .before .if1 .left), le-ltb _ _ (c .before .before .if2 .left), le-ltb _ _ (c .before .if3 .left), lt-ltb _ _ (c .if4 .taken)); most = search needs }
+
+returns-5 : tie.Need-returns-5
+unfolding digitOf
+returns-5 c =
+    record { is = simp (le-ltb _ _ (c .before .before .before .before .if1 .left), le-ltb _ _ (c .before .before .before .if2 .left), le-ltb _ _ (c .before .before .if3 .left), le-ltb _ _ (c .before .if4 .left), lt-ltb _ _ (c .if5 .taken)); most = search needs }
+
+returns-6 : tie.Need-returns-6
+unfolding digitOf
+returns-6 c =
+    record { is = simp (le-ltb _ _ (c .before .before .before .before .before .if1 .left), le-ltb _ _ (c .before .before .before .before .if2 .left), le-ltb _ _ (c .before .before .before .if3 .left), le-ltb _ _ (c .before .before .if4 .left), le-ltb _ _ (c .before .if5 .left), lt-ltb _ _ (c .if6 .taken)); most = search needs }
+
+returns-7 : tie.Need-returns-7
+unfolding digitOf
+returns-7 c =
+    record { is = simp (le-ltb _ _ (c .before .before .before .before .before .if1 .left), le-ltb _ _ (c .before .before .before .before .if2 .left), le-ltb _ _ (c .before .before .before .if3 .left), le-ltb _ _ (c .before .before .if4 .left), le-ltb _ _ (c .before .if5 .left), le-ltb _ _ (c .if6 .left)); most = search needs }
+
+pub digit-of-spec : {M : Type 1} → statement M
+digit-of-spec =
+    tie.close
+    (tie.spec
+    returns
+    returns-2
+    returns-3
+    (λ c. search needs)
+    returns-4
+    returns-5
+    (λ c. search needs)
+    returns-6
+    returns-7)

@@ -1,0 +1,5 @@
+pub mod Hex
+pub mod Input
+pub mod Numbers
+pub mod Output
+pub mod Words
