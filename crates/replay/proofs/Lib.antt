@@ -1,0 +1,2 @@
+-- Laws of `replay`'s definitions.
+pub mod Told
