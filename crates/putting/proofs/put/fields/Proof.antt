@@ -1,4 +1,4 @@
--- `writing::put::fields` puts the row of the kind, and each layout has room.
+-- `putting::put::fields` puts the row of the kind, and each layout has room.
 -- Assumes nothing.
 use Rattle.wire.proofs.Layouts.{none-row}
 use Rattle.message.specs.Layouts.{layoutOf}
