@@ -1,10 +1,11 @@
 -- Laws of an id's digits, rule, value and answer.
 use mathlib.Core.Path.{_≡_, refl, sym, ap, ap₂, _∙_}
 use mathlib.Core.Logic.{_≢_}
-use mathlib.Core.Bool.{Bool, true, false, cond, _||_}
-use mathlib.Core.List.{List}
+use mathlib.Core.Bool.{Bool, true, false, cond, _&&_, _||_}
+use mathlib.Core.List.{List, [], _∷_}
 use Prim.Native.Nat.{ℕ, zero, suc, _+_, _-_, _*_, _^_, _≤_, _<_}
 use native.Mathlib.Nat.{le-of-suc-le, le-refl, mul-comm, pow-suc, pow-le-pow-right, lt-of-lt-of-le, lt-trans}
+use native.Mathlib.Numerals.{unary-clauses}
 use native.Mathlib.Omega.{arith}
 use lib.Arith.{digits-lt}
 use lib.Dec.{ltb, lit<}
@@ -14,9 +15,9 @@ use borrow.Author.Tests.{ltb-true, lt-ltb, le-ltb}
 use Rattle.fields.specs.declared.id.IdValue.{IdValue}
 use Rattle.fields.specs.declared.id.IdValue.the-variants.{Value, Refused}
 use Rattle.fields.specs.Tests.{firstAll}
-use Rattle.fields.specs.Id.{isNumeral, isCapital, isDigit, digitOf, digitTable, goodId, valueOf, noValue, numberOf, idAnswer, Begun}
+use Rattle.fields.specs.Id.{isNumeral, isCapital, isDigit, digitOf, digitTable, goodId, valueOf, noFour, fourOf, noValue, numberOf, idAnswer, Begun}
 use Rattle.fields.proofs.Table.{entry}
-use Rattle.fields.proofs.Tests.{in-range, all-more, all-before, all-last, all-fail, all-take}
+use Rattle.fields.proofs.Tests.{in-range, all-before, all-last, all-fail, all-longer, all-take}
 
 -- ---- digits
 
@@ -84,28 +85,35 @@ answer-take id =
 pub first-twelve : (a b : List ℕ) → take 12 a ≡ take 12 b → idAnswer a ≡ idAnswer b
 first-twelve a b same = sym (answer-take a) ∙ ap idAnswer same ∙ answer-take b
 
+-- ---- read as one number: the value of the first k characters, or 36 ^ k, which no k characters have
+
+read-cases : (k : ℕ) (id : List ℕ) (n : ℕ) (b : Bool) → firstAll isDigit k id ≡ b → n ≡ cond b (valueOf k id) (36 ^ k)
+    → (n ≡ 36 ^ k → b ≡ false) × (n ≢ 36 ^ k → (b ≡ true) × (n ≡ valueOf k id))
+read-cases k id n true good is = ((λ none. absurd (omega (arith, value-below id k good))), λ some. (refl, is))
+read-cases k id n false bad is = ((λ none. refl), λ some. absurd (some is))
+
+module _ (k : ℕ) (id : List ℕ) {n : ℕ} (is : n ≡ cond (firstAll isDigit k id) (valueOf k id) (36 ^ k)) where
+  read-none : n ≡ 36 ^ k → firstAll isDigit k id ≡ false
+  read-none = read-cases k id n (firstAll isDigit k id) refl is .0
+
+  read-some : n ≢ 36 ^ k → (firstAll isDigit k id ≡ true) × (n ≡ valueOf k id)
+  read-some = read-cases k id n (firstAll isDigit k id) refl is .1
+
 number-good : (id : List ℕ) → goodId id ≡ true → valueOf 12 id ≡ numberOf id
 unfolding numberOf
-number-good id good = sym (ap (λ (b : Bool). cond b (valueOf 12 id) noValue) good)
+number-good id good = rw good
 
 number-bad : (id : List ℕ) → goodId id ≡ false → noValue ≡ numberOf id
 unfolding numberOf
-number-bad id bad = sym (ap (λ (b : Bool). cond b (valueOf 12 id) noValue) bad)
-
-number-cases : (id : List ℕ) (n : ℕ) (b : Bool) → goodId id ≡ b → n ≡ cond b (valueOf 12 id) noValue
-    → (n ≡ noValue → Refused 12 ≡ cond b (Value (valueOf 12 id)) (Refused 12))
-    × (n ≢ noValue → Value n ≡ cond b (Value (valueOf 12 id)) (Refused 12))
-unfolding goodId
-number-cases id n true good is = ((λ none. absurd (omega (arith, value-below id 12 good))), λ some. ap Value is)
-number-cases id n false bad is = ((λ none. refl), λ some. absurd (some is))
+number-bad id bad = rw bad
 
 pub answer-none : (id : List ℕ) {n : ℕ} → n ≡ numberOf id → n ≡ noValue → Refused 12 ≡ idAnswer id
-unfolding numberOf idAnswer
-answer-none id {n} is none = number-cases id n (goodId id) refl is .0 none
+unfolding numberOf goodId
+answer-none id is none = sym (answer-bad id (read-none 12 id is none))
 
 pub answer-some : (id : List ℕ) {n : ℕ} → n ≡ numberOf id → n ≢ noValue → Value n ≡ idAnswer id
-unfolding numberOf idAnswer
-answer-some id {n} is some = number-cases id n (goodId id) refl is .1 some
+unfolding numberOf goodId
+answer-some id is some = ap Value (read-some 12 id is some .1) ∙ sym (answer-good id (read-some 12 id is some .0))
 
 -- whether an answer is a value
 abbrev pub accepted : IdValue → Bool
@@ -121,7 +129,57 @@ pub accepted-good : (id : List ℕ) {answer case : IdValue} → answer ≡ idAns
 unfolding idAnswer
 accepted-good id is found = ap accepted (sym found ∙ is) ∙ accepted-cond (goodId id) (valueOf 12 id) 12
 
--- ---- reading on, one character at a time
+-- ---- four characters
+
+module _ (a b c d : ℕ) where
+  pub four-none : (k : ℕ) {v : ℕ} → k < 4 → v ≡ digitOf (getD (a ∷ b ∷ c ∷ d ∷ []) k 0) → v ≡ 36 → noFour ≡ fourOf a b c d
+  unfolding fourOf
+  four-none k inside is none =
+      rw (all-fail isDigit (a ∷ b ∷ c ∷ d ∷ []) k 4 inside (no-digit (getD (a ∷ b ∷ c ∷ d ∷ []) k 0) (sym is ∙ none)))
+
+  four-good : firstAll isDigit 4 (a ∷ b ∷ c ∷ d ∷ []) ≡ true → valueOf 4 (a ∷ b ∷ c ∷ d ∷ []) ≡ fourOf a b c d
+  unfolding fourOf
+  four-good good = rw good
+
+  module _ {v w x y : ℕ} (first : v ≡ digitOf a) (second : w ≡ digitOf b) (third : x ≡ digitOf c) (fourth : y ≡ digitOf d) where
+    four-all : v ≢ 36 → w ≢ 36 → x ≢ 36 → y ≢ 36 → firstAll isDigit 4 (a ∷ b ∷ c ∷ d ∷ []) ≡ true
+    unfolding firstAll
+    four-all p q r s =
+        simp (
+          is-digit a (λ e. p (first ∙ e)),
+          is-digit b (λ e. q (second ∙ e)),
+          is-digit c (λ e. r (third ∙ e)),
+          is-digit d (λ e. s (fourth ∙ e)),
+        )
+
+    four-value : (v * 36 + w) * 1296 + (x * 36 + y) ≡ valueOf 4 (a ∷ b ∷ c ∷ d ∷ [])
+    unfolding valueOf
+    four-value = omega arith
+
+    pub four-some : v ≢ 36 → w ≢ 36 → x ≢ 36 → y ≢ 36 → (v * 36 + w) * 1296 + (x * 36 + y) ≡ fourOf a b c d
+    four-some p q r s = four-value ∙ four-good (four-all p q r s)
+
+-- ---- reading on, four characters at a time
+
+-- the four characters from k on
+abbrev fourFrom : List ℕ → ℕ → List ℕ
+fourFrom id k = getD id k 0 ∷ getD id (k + 1) 0 ∷ getD id (k + 2) 0 ∷ getD id (k + 3) 0 ∷ []
+
+-- their value
+abbrev groupAt : List ℕ → ℕ → ℕ
+groupAt id k = fourOf (getD id k 0) (getD id (k + 1) 0) (getD id (k + 2) 0) (getD id (k + 3) 0)
+
+and-four : (f a b c d : Bool) → ((((f && a) && b) && c) && d) ≡ (f && ((((true && a) && b) && c) && d))
+and-four true a b c d = refl
+and-four false a b c d = refl
+
+good-four : (id : List ℕ) (k : ℕ) → firstAll isDigit (k + 4) id ≡ (firstAll isDigit k id && firstAll isDigit 4 (fourFrom id k))
+unfolding firstAll
+good-four id k = simp unary-clauses (and-four (firstAll isDigit k id) _ _ _ _)
+
+value-four : (id : List ℕ) (k : ℕ) → valueOf (k + 4) id ≡ valueOf k id * noFour + valueOf 4 (fourFrom id k)
+unfolding valueOf
+value-four id k = simp unary-clauses (omega arith)
 
 module _ {digits id : List ℕ} {left sofar : ℕ} (begun : Begun digits id left sofar) where
   pub begun-done : left ≡ 0 → sofar ≡ numberOf id
@@ -130,33 +188,39 @@ module _ {digits id : List ℕ} {left sofar : ℕ} (begun : Begun digits id left
       let all : 12 - left ≡ 12 = omega arith in
       begun .value ∙ ap (λ (k : ℕ). valueOf k id) all ∙ number-good id (rw all at (begun .good))
 
-  module _ (more : left ≢ 0) {d : ℕ} (read : d ≡ digitOf (getD id (12 - left) 0)) where
-    pub begun-bad : d ≡ 36 → noValue ≡ numberOf id
-    unfolding goodId
+  module _ (more : left ≢ 0) {group : ℕ} (read : group ≡ groupAt id (12 - left)) where
+    four-more : 12 - (left - 4) ≡ 12 - left + 4
+    four-more = omega (arith, begun .few, begun .groups)
+
+    good-read : firstAll isDigit (12 - (left - 4)) id ≡ firstAll isDigit 4 (fourFrom id (12 - left))
+    good-read = rw four-more (good-four id (12 - left) ∙ rw (begun .good))
+
+    pub begun-bad : group ≡ noFour → noValue ≡ numberOf id
+    unfolding goodId fourOf
     begun-bad none =
-        let inside : 12 - left < 12 = omega arith in
-        number-bad id (all-fail isDigit id (12 - left) 12 inside (no-digit (getD id (12 - left) 0) (sym read ∙ none)))
+        let inside : 12 - (left - 4) ≤ 12 = omega arith in
+        number-bad id (all-longer isDigit id (12 - (left - 4)) 12 inside (good-read ∙ read-none 4 (fourFrom id (12 - left)) read none))
 
-    one-more : 12 - (left - 1) ≡ suc (12 - left)
-    one-more = omega arith
+    module _ (some : group ≢ noFour) where
+      group-read : (firstAll isDigit 4 (fourFrom id (12 - left)) ≡ true) × (group ≡ valueOf 4 (fourFrom id (12 - left)))
+      unfolding fourOf
+      group-read = read-some 4 (fourFrom id (12 - left)) read some
 
-    value-more : sofar * 36 + d ≡ valueOf (12 - (left - 1)) id
-    unfolding valueOf
-    value-more = rw (one-more, ← begun .value, mul-comm sofar 36, read)
+      good-more : firstAll isDigit (12 - (left - 4)) id ≡ true
+      good-more = good-read ∙ group-read .0
 
-    module _ (digit : d ≢ 36) where
-      good-more : firstAll isDigit (12 - (left - 1)) id ≡ true
-      good-more =
-          rw one-more (all-more isDigit id (12 - left) (begun .good) (is-digit (getD id (12 - left) 0) (λ none. digit (read ∙ none))))
+      value-more : sofar * noFour + group ≡ valueOf (12 - (left - 4)) id
+      value-more = rw (four-more, value-four id (12 - left), ← begun .value, ← group-read .1)
 
-      pub begun-more : Begun digits id (left - 1) (sofar * 36 + d)
-      begun-more = record { table = begun .table; few = omega arith; good = good-more; value = value-more }
+      pub begun-more : Begun digits id (left - 4) (sofar * noFour + group)
+      begun-more =
+          record { table = begun .table; few = omega arith; groups = omega (arith, begun .groups); good = good-more; value = value-more }
 
-      pub begun-fits : sofar * 36 + d < 2 ^ 64
+      pub begun-fits : sofar * noFour + group < 2 ^ 64
       begun-fits =
-          let most : 12 - (left - 1) ≤ 12 = omega arith in
+          let most : 12 - (left - 4) ≤ 12 = omega arith in
           rw
           value-more
           (lt-trans
-          (lt-of-lt-of-le (value-below id (12 - (left - 1)) good-more) (pow-le-pow-right (lit< tt) most))
+          (lt-of-lt-of-le (value-below id (12 - (left - 4)) good-more) (pow-le-pow-right (lit< tt) most))
           (lit< tt))

@@ -37,17 +37,24 @@ module _ (test : ℕ → Bool) (bytes : List ℕ) where
   unfolding firstAll
   all-last k e = and-right (firstAll test k bytes) (test (getD bytes k 0)) e
 
+  -- what fails the first k fails every longer row
+  pub all-longer : (k n : ℕ) → k ≤ n → firstAll test k bytes ≡ false → firstAll test n bytes ≡ false
+  unfolding firstAll
+  all-longer k zero h e =
+      ⊎-elim
+      (λ same. ap (λ (j : ℕ). firstAll test j bytes) (sym same) ∙ e)
+      (λ lt. absurd (not-suc-le-zero lt))
+      (eq-or-lt-of-le h)
+  all-longer k (suc n) h e =
+      ⊎-elim
+      (λ same. ap (λ (j : ℕ). firstAll test j bytes) (sym same) ∙ e)
+      (λ lt. ap (λ (b : Bool). b && test (getD bytes n 0)) (all-longer k n (le-of-suc-le-suc lt) e))
+      (eq-or-lt-of-le h)
+
   -- one byte that fails fails them all
   pub all-fail : (k n : ℕ) → k < n → test (getD bytes k 0) ≡ false → firstAll test n bytes ≡ false
   unfolding firstAll
-  all-fail k zero h e = absurd (not-suc-le-zero h)
-  all-fail k (suc n) h e =
-      ⊎-elim
-      (λ same. ap (λ (j : ℕ). firstAll test n bytes && test (getD bytes j 0)) (sym same)
-      ∙ ap (λ (b : Bool). firstAll test n bytes && b) e
-      ∙ and-false (firstAll test n bytes))
-      (λ lt. ap (λ (b : Bool). b && test (getD bytes n 0)) (all-fail k n lt e))
-      (eq-or-lt-of-le (le-of-suc-le-suc h))
+  all-fail k n h e = all-longer (suc k) n h (ap (λ (b : Bool). firstAll test k bytes && b) e ∙ and-false (firstAll test k bytes))
 
   -- no byte past the first k counts
   pub all-take : (k n : ℕ) → k ≤ n → firstAll test k (take n bytes) ≡ firstAll test k bytes

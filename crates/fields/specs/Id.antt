@@ -1,8 +1,8 @@
 -- An order id: its rule and its value.
-use Prim.Native.Nat.{ℕ, zero, suc, _+_, _-_, _*_, _^_, _≤_}
+use Prim.Native.Nat.{ℕ, zero, suc, _+_, _-_, _*_, _^_, _≤_, _%_}
 use mathlib.Core.Path.{_≡_}
 use mathlib.Core.Bool.{Bool, true, cond, _||_}
-use mathlib.Core.List.{List}
+use mathlib.Core.List.{List, [], _∷_}
 use lib.ListN.{getD}
 use Rattle.fields.specs.Table.{tabulate}
 use Rattle.fields.specs.Tests.{between, firstAll}
@@ -38,6 +38,16 @@ unfoldable pub valueOf : ℕ → List ℕ → ℕ
 valueOf zero id = 0
 valueOf (suc k) id = 36 * valueOf k id + digitOf (getD id k 0)
 
+-- one above the largest value of four characters: no four have it
+abbrev pub noFour : ℕ
+noFour = 36 ^ 4
+
+-- the value of four characters, or noFour where one is no digit
+unfoldable pub fourOf : ℕ → ℕ → ℕ → ℕ → ℕ
+fourOf a b c d =
+    let four = a ∷ b ∷ c ∷ d ∷ [] in
+    cond (firstAll isDigit 4 four) (valueOf 4 four) noFour
+
 -- one above the largest value of 12 characters: no id has it
 abbrev pub noValue : ℕ
 noValue = 36 ^ 12
@@ -50,9 +60,10 @@ numberOf id = cond (goodId id) (valueOf 12 id) noValue
 unfoldable pub idAnswer : List ℕ → IdValue
 idAnswer id = cond (goodId id) (Value (valueOf 12 id)) (Refused 12)
 
--- all but the last `left` of the 12 characters are read: they are digits, and `sofar` is their value
+-- all but the last `left` of the 12 characters are read, in groups of four: they are digits, and `sofar` is their value
 pub record Begun (digits id : List ℕ) (left sofar : ℕ) : Type 0 where
   pub table : digits ≡ digitTable
   pub few : left ≤ 12
+  pub groups : left % 4 ≡ 0
   pub good : firstAll isDigit (12 - left) id ≡ true
   pub value : sofar ≡ valueOf (12 - left) id

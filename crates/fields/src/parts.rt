@@ -1,7 +1,11 @@
 // Parts: for the crates above, which copy the digit table once and lend it for many ids.
 use crate::id::IdValue;
 ghost use mathlib.Core.Path.{_≡_};
-ghost use Rattle.fields.specs.Id.{digitOf, digitTable, numberOf, idAnswer, Begun};
+ghost use Prim.Native.Nat.{_≤_};
+ghost use Rattle.fields.specs.Id.{digitOf, digitTable, fourOf, numberOf, idAnswer, Begun};
+
+// One above the largest value of four characters: no four have it.
+const BAD: u64 = 1_679_616;
 
 // One above the largest value of twelve characters: no id has it.
 const NONE: u64 = 4_738_381_338_321_616_896;
@@ -26,16 +30,42 @@ fn number_from(digits: &[u8; 256], id: &[u8; 14], left: usize, sofar: u64) -> u6
     if left == 0 {
         return sofar;
     }
-    let digit = digit_of(digits, id[12 - left]);
-    if digit == 36 {
+    let at = 12 - left;
+    let group = four(digits, id[at], id[at + 1], id[at + 2], id[at + 3]);
+    if group == BAD {
         return NONE;
     }
-    number_from(digits, id, left - 1, sofar * 36 + digit)
+    number_from(digits, id, left - 4, sofar * BAD + group)
+}
+
+// The value of four characters, or BAD. All are looked up before the first test, so that the
+// look-ups overlap.
+fn four(digits: &[u8; 256], a: u8, b: u8, c: u8, d: u8) -> u64
+    requires { ⌜ now digits ≡ digitTable ⌝ }
+    ensures { λ r. ⌜ r ≡ fourOf a b c d ⌝ }
+{
+    let first = digit_of(digits, a);
+    let second = digit_of(digits, b);
+    let third = digit_of(digits, c);
+    let fourth = digit_of(digits, d);
+    if first == 36 {
+        return BAD;
+    }
+    if second == 36 {
+        return BAD;
+    }
+    if third == 36 {
+        return BAD;
+    }
+    if fourth == 36 {
+        return BAD;
+    }
+    (first * 36 + second) * 1296 + (third * 36 + fourth)
 }
 
 fn digit_of(digits: &[u8; 256], c: u8) -> u64
     requires { ⌜ now digits ≡ digitTable ⌝ }
-    ensures { λ r. ⌜ r ≡ digitOf c ⌝ }
+    ensures { λ r. ⌜ (r ≡ digitOf c) × (r ≤ 36) ⌝ }
 {
     digits[c as usize] as u64
 }

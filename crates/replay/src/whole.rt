@@ -6,6 +6,7 @@ use crate::digest;
 use session::packets::Count;
 use session::packets::burst;
 use session::state::Session;
+use session::state::book_of;
 
 pub struct Ran {
     pub session: Session,
@@ -91,7 +92,7 @@ pub extern "C" fn replay_burst(
 {
     let ran = run(number, packets, each, answers);
     let session = ran.session;
-    let book = session.book;
+    let book = book_of(session);
     let faults = book.faults;
     ends[0] = session.next;
     ends[1] = session.end;

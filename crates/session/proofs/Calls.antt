@@ -6,9 +6,9 @@ use mathlib.Core.List.{List, [], _∷_, _++_, append-nil, map}
 use mathlib.Core.Option.{Option, none, some}
 use Prim.Native.Nat.{ℕ, zero, suc, _+_, _-_, _*_, _/_, _%_, _≤_, _<_, min, max}
 use native.Mathlib.Omega.{arith}
-use borrow.Author.Tests.{eq-eqb, le-leb, le-ltb, leb-true, lt-leb, lt-ltb, ne-eqb}
+use borrow.Author.Tests.{eq-eqb, le-leb, le-ltb, leb-false, leb-true, lt-leb, lt-ltb, ne-eqb}
 use lib.Dec.{eqb, leb, ltb}
-use lib.ListN.{length, getD, replicate, length-append, length-map, length-replicate}
+use lib.ListN.{length, getD, replicate, take, length-append, length-map, length-replicate}
 use Rattle.wire.specs.Number.{Bytes, part, splice}
 use Rattle.wire.proofs.Place.{part-all, part-bytes, splice-none}
 use Rattle.merge.specs.Session.{opened, takeAll, takeOne}
@@ -24,15 +24,17 @@ use Rattle.waiting.specs.declared.missing.Gap.{Gap}
 use Rattle.waiting.proofs.Firsts.{Between, first-between}
 use Rattle.book.specs.Rule.{Kept}
 use Rattle.book.specs.Tables as book
-use Rattle.book.specs.Tables.{fresh}
-use Rattle.book.specs.declared.tables.Book.{Book}
+use Rattle.book.specs.Tables.{fresh, noInside, noOrder, places}
+use Rattle.book.specs.declared.tables.Order.{Order}
+use Rattle.book.specs.declared.tables.Inside.{Inside}
 use Rattle.taking.specs.Keeping.{waitingOf, windowFor}
 use Rattle.taking.specs.Taking.{bytesAt, takeTests, waitTests}
 use Rattle.taking.specs.Turns.{lengthAt}
 use Rattle.taking.proofs.Windows.{waits-place}
-use Rattle.session.specs.Meaning.{AllBytes, Ruled, State, feed, overnight, rep, view}
+use Rattle.session.specs.Meaning.{AllBytes, Ruled, State, bookIn, feed, overnight, rep, sessionOf, view}
+use Rattle.index.proofs.Laws.{index-empty}
 use Rattle.session.specs.Asking.{gapFrom, gapsOf, lacks, limit, missing, placed}
-use Rattle.session.specs.Bursts.{answerOf, answered, answersAfter, appliedOf, burstFrom, burstOf, framesOf, packetsIn, packetsOf, refusalOf, rowOf, rowsOf, takenOf}
+use Rattle.session.specs.Bursts.{answerOf, answered, answersAfter, appliedOf, burstFrom, burstOf, countIf, framesOf, packetsIn, packetsOf, refusalOf, rowOf, rowsOf, takenOf}
 use Rattle.session.specs.Bursts.{Runs}
 use Rattle.session.specs.declared.packets.Answer.{Answer}
 use Rattle.session.specs.declared.packets.Answer.the-variants.{Applied, Refused}
@@ -56,9 +58,16 @@ all-free p (suc n) =
     let e : suc n * 128 ≡ 128 + n * 128 = omega arith in
     ap (λ (k : ℕ). replicate k 0) e ∙ sym (replicate-more 128 (n * 128) 0) ∙ ap (λ (l : List ℕ). replicate 128 0 ++ l) (all-free (suc p) n)
 
-pub opens-fresh : (n : ℕ) {b : Book} → b ≡ book.rep fresh → _≡_ {A = Session} (record { book = b; window = replicate 32768 0; next = n; end = n }) (rep (opened feed n))
+pub opens-fresh : (n : ℕ) → sessionOf (book.rep fresh) (replicate 765 0) (replicate 32768 0) n n ≡ rep (opened feed n)
 unfolding opened windowFor windowOf
-opens-fresh n is = λ i. record { book = is i; window = all-free 0 256 i; next = n; end = n }
+opens-fresh n = λ i. sessionOf (book.rep fresh) (sym index-empty i) (all-free 0 256 i) n n
+
+pub opened-with : (n : ℕ) {order : Order} {inside : Inside} → order ≡ noOrder → inside ≡ noInside
+    → _≡_ {A = Session}
+    (record { orders = replicate 256 order; keys = replicate 256 0; insides = replicate 64 inside; fronts = replicate 64 0; backs = replicate 64 0; live = 0; held = 0; next = n; end = n; faults = record { number = 0; count = 0; reason = 0 }; index = replicate 765 0; code = 0; window = replicate 32768 0 })
+    (rep (opened feed n))
+unfolding places
+opened-with n o i = (λ j. record { orders = replicate 256 (o j); keys = replicate 256 0; insides = replicate 64 (i j); fronts = replicate 64 0; backs = replicate 64 0; live = 0; held = 0; next = n; end = n; faults = record { number = 0; count = 0; reason = 0 }; index = replicate 765 0; code = 0; window = replicate 32768 0 }) ∙ opens-fresh n
 
 pub rule-of : {s t : Session} → s ≡ t → Ruled t → Ruled s
 rule-of e r = subst Ruled (sym e) r
@@ -103,9 +112,9 @@ one-packet : (s : List ℕ) → packetsOf true s ≡ s ∷ []
 one-packet s = ap (λ (l : List ℕ). l ∷ []) (part-all s)
 
 pub one-runs : (s : List ℕ) → Runs true s 1 4
-one-runs s = record { all = refl; some = omega arith; room = omega arith; big = omega arith }
+one-runs s = record { all = omega arith; room = omega arith; big = omega arith }
 
-module _ (x : State) (s : List ℕ) {l : List ℕ} (rows : l ≡ splice (0 ∷ 0 ∷ 0 ∷ 0 ∷ []) 0 (rowsOf x (packetsOf true s))) where
+module _ (x : State) (s : List ℕ) {l : List ℕ} (rows : l ≡ splice (0 ∷ 0 ∷ 0 ∷ 0 ∷ []) 0 (rowsOf x (take 1 (packetsOf true s)))) where
   four : l ≡ rowOf x s
   unfolding splice rowsOf
   four = rows ∙ ap (λ (ps : List (List ℕ)). splice (0 ∷ 0 ∷ 0 ∷ 0 ∷ []) 0 (rowsOf x ps)) (one-packet s)
@@ -113,7 +122,7 @@ module _ (x : State) (s : List ℕ) {l : List ℕ} (rows : l ≡ splice (0 ∷ 0
   pub told-refusal : getD l 1 0 ≤ 255
   told-refusal = subst (λ (k : List ℕ). getD k 1 0 ≤ 255) (sym four) (omega (arith, refusal-small x s))
 
-  pub taken-is : {after : Session} {answer : Answer} → after ≡ rep (takeAll overnight x (packetsOf true s)) → answer ≡ answered (getD l 0 0) (getD l 1 0)
+  pub taken-is : {after : Session} {answer : Answer} → after ≡ rep (takeAll overnight x (take 1 (packetsOf true s))) → answer ≡ answered (getD l 0 0) (getD l 1 0)
       → _≡_ {A = Taken} (record { session = after; answer = answer }) (takenOf x s)
   unfolding takeAll
   taken-is {after} {answer} sessions answers =
@@ -135,70 +144,75 @@ pub parts-bytes : (s : List ℕ) → Bytes s → (fs : List (ℕ × ℕ)) → Al
 parts-bytes s bytes [] = tt
 parts-bytes s bytes (f ∷ fs) = (part-bytes s (f .0) (f .1) bytes, parts-bytes s bytes fs)
 
+take-all : (ss : List (List ℕ)) → take (length ss) ss ≡ ss
+take-all [] = refl
+take-all (s ∷ ss) = ap (λ (l : List (List ℕ)). s ∷ l) (take-all ss)
+
 length-packets : (s : List ℕ) → length (packetsIn s) ≡ length (burstFrom (length s) 0 s)
 length-packets s = length-map (burstFrom (length s) 0 s) (bytesAt s)
 
-module _ {session : Session} (rule : Ruled session) (s : List ℕ) (answers : List ℕ) {n : ℕ} (all : n ≡ length (burstFrom (length s) 0 s)) where
+module _ (session : Session) (s : List ℕ) (answers : List ℕ) {n : ℕ} (all : n ≡ length (burstFrom (length s) 0 s)) where
   packets-are : length (packetsIn s) ≡ n
   packets-are = length-packets s ∙ sym all
 
-  itself : session ≡ rep (view session)
-  itself = stands rule .same ∙ ap rep (sym (meaning (stands rule)))
+  -- the answers fit, and all are taken; or they do not, and none is
+  module _ {fits : Bool} (test : fits ≡ leb n (length answers / 4)) {due : ℕ} (dues : due ≡ cond fits n 0) where
+    short-by : (b : Bool) → leb n (length answers / 4) ≡ b → ltb (length answers) (4 * length (packetsIn s)) ≡ not b
+    short-by true e = le-ltb (length answers) (4 * length (packetsIn s)) (omega (arith, packets-are, leb-true n (length answers / 4) e))
+    short-by false e = lt-ltb (length answers) (4 * length (packetsIn s)) (omega (arith, packets-are, leb-false n (length answers / 4) e))
 
-  module _ (few : length answers / 4 < n) where
-    test : ltb (length answers) (4 * length (packetsIn s)) ≡ true
-    test = lt-ltb (length answers) (4 * length (packetsIn s)) (omega (arith, packets-are))
+    short : ltb (length answers) (4 * length (packetsIn s)) ≡ not fits
+    short = short-by (leb n (length answers / 4)) refl ∙ ap not (sym test)
 
-    pub too-short : _≡_ {A = TakenAll} (record { session = session; count = count.Refused 11 }) (burstOf (view session) (packetsIn s) (length answers))
-    unfolding burstOf
-    too-short =
-        (λ i. record { session = itself i; count = count.Refused 11 })
-        ∙ sym
-        (ap (λ (b : Bool). cond b (record { session = rep (view session); count = count.Refused 11 }) (record { session = rep (takeAll overnight (view session) (packetsIn s)); count = count.Packets (length (packetsIn s)) })) test)
+    due-by : (b : Bool) → fits ≡ b → take due (packetsIn s) ≡ cond b (packetsIn s) []
+    due-by true e = ap (λ (k : ℕ). take k (packetsIn s)) (dues ∙ ap (λ (c : Bool). cond c n 0) e ∙ sym packets-are) ∙ take-all (packetsIn s)
+    due-by false e = ap (λ (k : ℕ). take k (packetsIn s)) (dues ∙ ap (λ (c : Bool). cond c n 0) e)
 
-    pub unwritten : answers ≡ answersAfter (view session) (packetsIn s) answers
-    unfolding answersAfter
-    unwritten = sym (ap (λ (b : Bool). cond b answers (splice answers 0 (rowsOf (view session) (packetsIn s)))) test)
+    pub burst-runs : length answers ≤ 18446744073709551615 → Runs false s due (length answers)
+    burst-runs big = go fits refl
+      where
+        go : (b : Bool) → fits ≡ b → Runs false s due (length answers)
+        go true e =
+            let d : due ≡ n = dues ∙ ap (λ (c : Bool). cond c n 0) e in
+            record { all = omega (arith, d, all); room = omega (arith, d, leb-true n (length answers / 4) (sym test ∙ e)); big = big }
+        go false e = let d : due ≡ 0 = dues ∙ ap (λ (c : Bool). cond c n 0) e in record { all = omega (arith, d); room = omega (arith, d); big = big }
 
-  module _ (room : n ≤ length answers / 4) where
-    enough : ltb (length answers) (4 * length (packetsIn s)) ≡ false
-    enough = le-ltb (length answers) (4 * length (packetsIn s)) (omega (arith, packets-are))
+    pub burst-is : {after : Session} {told : Count} → after ≡ rep (takeAll overnight (view session) (take due (packetsIn s))) → told ≡ countIf fits n
+        → _≡_ {A = TakenAll} (record { session = after; count = told }) (burstOf (view session) (packetsIn s) (length answers))
+    unfolding burstOf takeAll
+    burst-is {after} {told} sessions counts = go fits refl
+      where
+        chosen : (b : Bool) → TakenAll
+        chosen b = cond b (record { session = rep (view session); count = count.Refused 11 }) (record { session = rep (takeAll overnight (view session) (packetsIn s)); count = count.Packets (length (packetsIn s)) })
 
-    pub taken-all : {after : Session} → after ≡ rep (takeAll overnight (view session) (packetsIn s)) → _≡_ {A = TakenAll} (record { session = after; count = count.Packets n }) (burstOf (view session) (packetsIn s) (length answers))
-    unfolding burstOf
-    taken-all sessions =
-        (λ i. record { session = sessions i; count = count.Packets (sym packets-are i) })
-        ∙ sym
-        (ap (λ (b : Bool). cond b (record { session = rep (view session); count = count.Refused 11 }) (record { session = rep (takeAll overnight (view session) (packetsIn s)); count = count.Packets (length (packetsIn s)) })) enough)
+        go : (b : Bool) → fits ≡ b → _≡_ {A = TakenAll} (record { session = after; count = told }) (chosen (ltb (length answers) (4 * length (packetsIn s))))
+        go true e =
+            let a : after ≡ rep (takeAll overnight (view session) (packetsIn s)) = sessions ∙ ap (λ (ps : List (List ℕ)). rep (takeAll overnight (view session) ps)) (due-by true e) in
+            let c : told ≡ count.Packets (length (packetsIn s)) = counts ∙ ap (λ (b : Bool). countIf b n) e ∙ ap count.Packets (sym packets-are) in
+            (λ i. record { session = a i; count = c i }) ∙ sym (ap chosen (short ∙ ap not e))
+        go false e =
+            let a : after ≡ rep (view session) = sessions ∙ ap (λ (ps : List (List ℕ)). rep (takeAll overnight (view session) ps)) (due-by false e) in
+            let c : told ≡ count.Refused 11 = counts ∙ ap (λ (b : Bool). countIf b n) e in
+            (λ i. record { session = a i; count = c i }) ∙ sym (ap chosen (short ∙ ap not e))
 
-    pub rows-all : {after : List ℕ} → after ≡ splice answers 0 (rowsOf (view session) (packetsIn s)) → after ≡ answersAfter (view session) (packetsIn s) answers
-    unfolding answersAfter
-    rows-all is = is ∙ sym (ap (λ (b : Bool). cond b answers (splice answers 0 (rowsOf (view session) (packetsIn s)))) enough)
+    pub rows-are : {after : List ℕ} → after ≡ splice answers 0 (rowsOf (view session) (take due (packetsIn s))) → after ≡ answersAfter (view session) (packetsIn s) answers
+    unfolding answersAfter rowsOf
+    rows-are {after} is = go fits refl
+      where
+        chosen : (b : Bool) → List ℕ
+        chosen b = cond b answers (splice answers 0 (rowsOf (view session) (packetsIn s)))
 
-    -- no whole packet
-    module _ (empty : n ≡ 0) where
-      none-there : packetsIn s ≡ []
-      none-there = go (packetsIn s) (packets-are ∙ empty)
-        where
-          go : (l : List (List ℕ)) → length l ≡ 0 → l ≡ []
-          go [] e = refl
-          go (p ∷ ps) e = absurd (omega arith)
+        go : (b : Bool) → fits ≡ b → after ≡ chosen (ltb (length answers) (4 * length (packetsIn s)))
+        go true e = is ∙ ap (λ (ps : List (List ℕ)). splice answers 0 (rowsOf (view session) ps)) (due-by true e) ∙ sym (ap chosen (short ∙ ap not e))
+        go false e = is ∙ ap (λ (ps : List (List ℕ)). splice answers 0 (rowsOf (view session) ps)) (due-by false e) ∙ splice-none answers 0 ∙ sym (ap chosen (short ∙ ap not e))
 
-      pub none-taken : _≡_ {A = TakenAll} (record { session = session; count = count.Packets 0 }) (burstOf (view session) (packetsIn s) (length answers))
-      unfolding takeAll
-      none-taken =
-          (λ i. record { session = session; count = count.Packets (sym empty i) })
-          ∙ taken-all (itself ∙ sym (ap (λ (ps : List (List ℕ)). rep (takeAll overnight (view session) ps)) none-there))
+first-bytes : (n : ℕ) (ss : List (List ℕ)) → AllBytes ss → AllBytes (take n ss)
+first-bytes zero ss h = tt
+first-bytes (suc n) [] h = tt
+first-bytes (suc n) (s ∷ ss) h = (h .0, first-bytes n ss (h .1))
 
-      pub none-written : answers ≡ answersAfter (view session) (packetsIn s) answers
-      unfolding rowsOf
-      none-written = rows-all (sym (ap (λ (ps : List (List ℕ)). splice answers 0 (rowsOf (view session) ps)) none-there ∙ splice-none answers 0))
-
-    pub burst-runs : length answers ≤ 18446744073709551615 → (n ≡ 0 → ⊥) → Runs false s n (length answers)
-    burst-runs big one = record { all = all; some = omega (arith, one); room = omega arith; big = big }
-
-pub rule-packets : {session : Session} → Ruled session → (single : Bool) (s : List ℕ) → Bytes s → {after : Session} → after ≡ rep (takeAll overnight (view session) (packetsOf single s)) → Ruled after
-rule-packets rule single s bytes e = rule-of e (ruled-more rule (packetsOf single s) (parts-bytes s bytes (framesOf single s)))
+pub rule-packets : {session : Session} → Ruled session → (single : Bool) (s : List ℕ) (n : ℕ) → Bytes s → {after : Session} → after ≡ rep (takeAll overnight (view session) (take n (packetsOf single s))) → Ruled after
+rule-packets rule single s n bytes e = rule-of e (ruled-more rule (take n (packetsOf single s)) (first-bytes n (packetsOf single s) (parts-bytes s bytes (framesOf single s))))
 
 -- ---- counting the packets of a burst
 
@@ -243,8 +257,8 @@ module _ {s : List ℕ} {at n : ℕ} (g : Counting s at n) where
 
 -- ---- what is missing
 
-pub book-kept : {s : Session} → Ruled s → Kept (s .book)
-book-kept r = subst (λ (z : Session). Kept (z .book)) (sym (stands r .same)) (kept (stands r .good))
+pub book-kept : {s : Session} → Ruled s → Kept (bookIn s)
+book-kept r = subst (λ (z : Session). Kept (bookIn z)) (sym (stands r .same)) (kept (stands r .good))
 
 pub record Numbered (s : Session) : Type 0 where
   pub order : s .next ≤ s .end

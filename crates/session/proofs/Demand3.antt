@@ -73,10 +73,10 @@ session-demand3 {n} small {handed} g = subst (Demand3 feed n (accepted overnight
 -- Two hosts that accepted the same messages, in whatever packets and order, and have the same next, hold equal tables.
 pub two-hosts : {n : ℕ} → n ≤ 4294967295 → {ones others : List (List ℕ)} {s t : Session} → Given n ones s → Given n others t → s .next ≡ t .next
     → ((k : ℕ) → n ≤ k → k < s .next → firstCopy (accepted overnight (opened feed n) ones) k ≡ firstCopy (accepted overnight (opened feed n) others) k)
-    → book.view (s .book) ≡ book.view (t .book)
+    → view s .tables ≡ view t .tables
 two-hosts small one other at same = hosts-agree (session-demand3 small one) (session-demand3 small other) at same
 
 -- Once the first copies are what was sent, the tables are those of what was sent: the lines' losses and order leave no trace.
 pub no-trace : {n : ℕ} → n ≤ 4294967295 → (sent : ℕ → List ℕ) {handed : List (List ℕ)} {s : Session} → Given n handed s → Genuine sent (accepted overnight (opened feed n) handed)
-    → book.view (s .book) ≡ sentTables feed sent n (s .next)
+    → view s .tables ≡ sentTables feed sent n (s .next)
 no-trace small sent g genuine = host-sent feed sent genuine (session-demand3 small g)

@@ -1,5 +1,6 @@
 -- Laws of `session`'s definitions.
 pub mod States
+pub mod Finds
 pub mod Runs
 pub mod Calls
 pub mod Demand3

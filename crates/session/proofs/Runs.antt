@@ -1,46 +1,53 @@
 -- The engine: a packet admitted, a message applied, a packet answered, each as one step of the definition.
 -- Assumes nothing.
 use mathlib.Core.Path.{_≡_, refl, ap, ap₂, _∙_, sym, subst}
-use mathlib.Core.Bool.{Bool, true, false, cond}
+use mathlib.Core.Bool.{Bool, true, false, cond, _&&_}
 use mathlib.Core.List.{List, [], _∷_, _++_, append-nil, map}
 use mathlib.Core.Logic.{by-cases}
 use mathlib.Core.Option.{Option, none, some, Option·none-ne-some}
-use Prim.Native.Nat.{ℕ, zero, suc, _+_, _-_, _*_, _%_, _≤_, _<_}
-use native.Mathlib.Decide.{decLt}
+use Prim.Native.Nat.{ℕ, zero, suc, _+_, _-_, _*_, _%_, _≤_, _<_, min}
+use native.Mathlib.Decide.{decLt, ℕ-discrete}
 use native.Mathlib.Nat.{mod-lt}
 use native.Mathlib.Omega.{arith}
 use borrow.Author.Tests.{leb-true}
-use lib.Dec.{leb}
-use lib.ListN.{length, getD, take, drop}
+use lib.Dec.{eqb, leb}
+use lib.ListN.{length, getD, take, set, length-set}
 use lib.Seq.{length-take-le}
 use Rattle.wire.specs.Number.{Bytes, part, splice}
 use Rattle.wire.proofs.Place.{length-splice, part-bytes, splice-next, splice-none}
 use Rattle.merge.specs.Session as merge
-use Rattle.merge.specs.Session.{Packet, applyUpTo, keep, keptAt, step, takeAll, takeIf, takeOne}
+use Rattle.merge.specs.Session.{Packet, applyUpTo, freedAt, keep, keptAt, step, takeAll, takeIf, takeOne}
 use Rattle.merge.specs.Places.{InPlaces, Put, numberAt}
 use Rattle.merge.proofs.Clauses.{freed-other}
 use Rattle.merge.proofs.Lowest.{stuck}
 use Rattle.merge.proofs.Places.{held-place, step-put}
+use Rattle.merge.proofs.Window.{nothing-waits, waits-where}
 use Rattle.packet.specs.Header.{decided}
+use Rattle.index.specs.Chains.{Indexed, indexOf}
+use Rattle.index.specs.Changes.{Open as Room, Leaving, without}
+use Rattle.index.proofs.Kept.{asks-put, asks-remove, kept-put, kept-remove}
 use Rattle.waiting.specs.Window.{sizeAt, startOf, waitsAt, windowOf, zeros}
 use Rattle.waiting.proofs.Held.{clear-window, with, with-other, with-same}
+use Rattle.waiting.proofs.Parts.{part-front, part-long}
 use Rattle.book.specs.Applying.{Whole, applyOf}
-use Rattle.book.specs.Rule.{Kept, Ready}
+use Rattle.book.specs.Rule.{Distinct, Kept}
 use Rattle.book.specs.Tables as book
-use Rattle.book.specs.Tables.{Tables}
+use Rattle.book.specs.Tables.{Tables, idsOf}
 use Rattle.book.specs.declared.tables.Book.{Book}
 use Rattle.book.proofs.Keeping as keeping
-use Rattle.taking.specs.Keeping.{Neat, admittedOf, keptBy, keptIf, stateOf, waitingOf, windowFor}
+use Rattle.source.specs.Source.{Begins, Goes, Lies as InBytes, messageAt, onwardOf, sizeIn, textAfter, windowAfter}
+use Rattle.source.specs.declared.Source.{Source}
+use Rattle.source.proofs.Choices.{freed-packet, freed-window, message-packet, message-window, onward-packet, onward-window, size-packet, size-window, text-packet, text-window}
+use Rattle.taking.specs.Keeping.{Known, Neat, admittedOf, countOf, heldBy, keptBy, keptIf, startsAt, stateOf, straightIn, waitingOf, windowFor}
 use Rattle.taking.specs.Taking.{bytesAt, judge, takeTests}
-use Rattle.taking.proofs.Windows.{Within, fine, in-places, place-free, place-used, placed, same-window, waiting-for, waits-place}
-use Rattle.session.specs.Meaning.{State, feed, overnight, rep, view, Ruled}
-use Rattle.session.specs.Bursts.{burstFrom, framesOf, packetsOf, refusalOf, rowOf, rowWith, rowsOf}
-use Rattle.session.specs.Bursts.{Runs}
-use Rattle.taking.specs.Turns.{Closes, Follows, Lies, behind, closing, frameAt, lengthAt, packetAt, turnOf}
-use Rattle.session.specs.declared.state.Session.{Session}
+use Rattle.taking.specs.Turns.{Closes, Follows, Lies, answerIf, atStart, behind, closing, frameAt, lengthAt, packetAt, placeAfter, placeIf, turnOf}
 use Rattle.taking.specs.declared.turning.Turn.{Turn}
-use Rattle.taking.proofs.Frames.{part-front, part-long}
-use Rattle.session.proofs.States.{Good, Stands, good-kept, good-step, kept, meaning, neat, ready, stands, waits-below, within}
+use Rattle.taking.proofs.Ahead.{Ahead, ahead-of, freed, level-of}
+use Rattle.taking.proofs.Windows.{Within, fine, in-places, place-free, place-used, placed, same-window, waiting-for, waits-place, window-size}
+use Rattle.session.specs.Meaning.{State, bookIn, feed, overnight, rep, sessionOf, view, Ruled}
+use Rattle.session.specs.Bursts.{Runs, burstFrom, framesOf, packetsOf, refusalOf, rowOf, rowWith, rowsOf}
+use Rattle.session.specs.declared.state.Session.{Session}
+use Rattle.session.proofs.States.{Good, Stands, good-kept, good-step, ids-of, index-of, indexed-rep, kept, meaning, neat, stands, waits-below, within}
 
 -- ---- the packets that are left lie one behind the other
 
@@ -66,6 +73,16 @@ all-rest true s =
     (record { start = omega arith; within = omega arith }, (ap (λ (n : ℕ). (0, n)) e, tt))
 all-rest false s = burst-rest (length s) 0 s
 
+pub rest-first : (n : ℕ) (single : Bool) (s : List ℕ) (at : ℕ) (l : List (ℕ × ℕ)) → Rest single s at l → Rest single s at (take n l)
+rest-first zero single s at l lie = tt
+rest-first (suc n) single s at [] lie = tt
+rest-first (suc n) single s at (f ∷ fs) lie = (lie .0, (lie .1 .0, rest-first n single s (behind single s at) fs (lie .1 .1)))
+
+take-map : (n : ℕ) (f : ℕ × ℕ → List ℕ) (l : List (ℕ × ℕ)) → take n (map f l) ≡ map f (take n l)
+take-map zero f l = refl
+take-map (suc n) f [] = refl
+take-map (suc n) f (x ∷ l) = ap (λ (k : List (List ℕ)). f x ∷ k) (take-map n f l)
+
 -- ---- a packet, on the window alone and on the whole session
 
 abbrev bare : State → merge.Session (List ℕ) (Unit {0})
@@ -88,6 +105,25 @@ kept-next : (x : State) (o : Option (Packet (List ℕ))) → (keptIf x o .next �
 unfolding keptIf keep
 kept-next x none = (refl, refl)
 kept-next x (some p) = (refl, refl)
+
+bare-straight : (x : State) (p : List ℕ) → straightIn (bare x) p ≡ straightIn x p
+unfolding straightIn
+bare-straight x p = ap (λ (o : Option (Packet (List ℕ))). eqb (x .end) (x .next) && startsAt (x .next) o) (bare-judge x p)
+
+bare-kept : (x : State) (p : List ℕ) → keptBy (bare x) p .waiting ≡ keptBy x p .waiting
+bare-kept x p = ap (λ (o : Option (Packet (List ℕ))). keptIf (bare x) o .waiting) (bare-judge x p) ∙ bare-if x (judge x p) .0
+
+bare-held : (x : State) (p : List ℕ) → heldBy (bare x) p .waiting ≡ heldBy x p .waiting
+unfolding heldBy
+bare-held x p = ap (λ (b : Bool). cond b (bare x) (keptBy (bare x) p) .waiting) (bare-straight x p) ∙ go (straightIn x p)
+  where
+    go : (b : Bool) → cond b (bare x) (keptBy (bare x) p) .waiting ≡ cond b x (keptBy x p) .waiting
+    go true = refl
+    go false = bare-kept x p
+
+held-by : (x : State) (p : List ℕ) (b : Bool) → straightIn x p ≡ b → heldBy x p ≡ cond b x (keptBy x p)
+unfolding heldBy
+held-by x p b e = ap (λ (c : Bool). cond c x (keptBy x p)) e
 
 -- with nothing left to apply before it, a packet is kept and then all is applied that can be
 take-kept : (x : State) (p : List ℕ) → x .waiting (x .next) ≡ none → takeOne overnight x p ≡ applyUpTo feed 256 (keptBy x p)
@@ -112,42 +148,60 @@ module _ (x : State) {w : List ℕ} {next end : ℕ} (g : Good x) (window : w �
   unfolding admittedOf
   state-end = ap (λ (z : merge.Session (List ℕ) (Unit {0})). keptBy z p .end) as-state ∙ ap (λ (o : Option (Packet (List ℕ))). keptIf (bare x) o .end) (bare-judge x p) ∙ bare-if x (judge x p) .1
 
-  state-waits : keptBy (stateOf w next end) p .waiting ≡ keptBy x p .waiting
-  state-waits = ap (λ (z : merge.Session (List ℕ) (Unit {0})). keptBy z p .waiting) as-state ∙ ap (λ (o : Option (Packet (List ℕ))). keptIf (bare x) o .waiting) (bare-judge x p) ∙ bare-if x (judge x p) .0
+  state-direct : admittedOf (stateOf w next end) p .direct ≡ cond (straightIn x p) (countOf (judge x p)) 0
+  unfolding admittedOf
+  state-direct = ap (λ (z : merge.Session (List ℕ) (Unit {0})). cond (straightIn z p) (countOf (judge z p)) 0) as-state ∙ (λ i. cond (bare-straight x p i) (countOf (bare-judge x p i)) 0)
+
+  state-held : heldBy (stateOf w next end) p .waiting ≡ heldBy x p .waiting
+  state-held = ap (λ (z : merge.Session (List ℕ) (Unit {0})). heldBy z p .waiting) as-state ∙ bare-held x p
+
+  pub state-known : Known w next end
+  state-known =
+      record {
+        below =
+            λ k m e.
+            omega (arith, waits-where (g .inv) k (ap (λ (h : ℕ → Option (List ℕ)). h k) (sym (ap₂ waitingOf window at ∙ waiting-for (within g))) ∙ e) .known, ends);
+      }
 
 -- ---- where the engine is
 
 abbrev pub finish : State → ℕ → ℕ → State
 finish x before next = applyUpTo feed (before + 256 - next) x
 
-pub record Open (all : State) (written : List ℕ) (s : List ℕ) (single : Bool) (answers : List ℕ) (b : Book) (w : List ℕ) (next : ℕ) (turn : Turn) : Type 0 where
+-- the answers that are to come, from the one at hand on
+abbrev rowsFrom : Turn → List ℕ → State → List (ℕ × ℕ) → List ℕ
+rowsFrom turn s z rest = answerIf (turn .begun) (rowWith (turn .before) (turn .refusal) z) ++ rowsOf z (map (bytesAt s) rest)
+
+pub record Open (all : State) (written : List ℕ) (s : List ℕ) (single : Bool) (answers : List ℕ) (b : Book) (index w : List ℕ) (next : ℕ) (turn : Turn) (source : Source) : Type 0 where
   pub state : State
   pub good : Good state
   pub book : b ≡ book.rep (state .tables)
-  pub window : w ≡ windowFor (state .waiting) (state .next)
+  pub indexed : Indexed index (b .keys) (b .live)
+  pub ahead : Ahead s (source .left) (source .from) (state .next) w (state .waiting)
+  pub long : length w ≡ 32768
   pub at : next ≡ state .next
   pub end : turn .end ≡ state .end
   pub low : turn .before ≤ next
   pub near : (k : ℕ) → turn .before + 256 ≤ k → state .waiting k ≡ none
   pub rest : List (ℕ × ℕ)
   pub frames : Rest single s (turn .at) rest
-  pub left : turn .left ≡ suc (length rest)
+  pub left : turn .left ≡ length rest
   pub session : all ≡ takeAll overnight (finish state (turn .before) next) (map (bytesAt s) rest)
-  pub rows : written ≡ splice answers (turn .place) (rowWith (turn .before) (turn .refusal) (finish state (turn .before) next) ++ rowsOf (finish state (turn .before) next) (map (bytesAt s) rest))
-  pub room : turn .place + 4 * turn .left ≤ length answers
+  pub rows : written ≡ splice answers (turn .place) (rowsFrom turn s (finish state (turn .before) next) rest)
+  pub room : placeAfter turn + 4 * turn .left ≤ length answers
   pub big : length answers ≤ 18446744073709551615
 
 -- a packet is admitted
-module _ (all : State) (written : List ℕ) (x : State) (s : List ℕ) (single : Bool) (answers : List ℕ) {b : Book} {w w′ : List ℕ} {next end at left place : ℕ} {turn : Turn}
+module _ (all : State) (written : List ℕ) (x : State) (s : List ℕ) (single : Bool) (answers : List ℕ) {b : Book} {index w w′ : List ℕ} {next end at left place : ℕ} {turn : Turn}
     (bytes : Bytes s) (g : Good x) (front : x .waiting (x .next) ≡ none)
-    (books : b ≡ book.rep (x .tables)) (window : w ≡ windowFor (x .waiting) (x .next)) (nexts : next ≡ x .next) (ends : end ≡ x .end)
-    (f : ℕ × ℕ) (fs : List (ℕ × ℕ)) (lie : Rest single s at (f ∷ fs)) (many : left ≡ suc (length fs))
+    (books : b ≡ book.rep (x .tables)) (indexed : Indexed index (b .keys) (b .live)) (window : w ≡ windowFor (x .waiting) (x .next)) (nexts : next ≡ x .next) (ends : end ≡ x .end)
+    (f : ℕ × ℕ) (fs : List (ℕ × ℕ)) (lie : Rest single s at (f ∷ fs)) (many : left ≡ length fs)
     (session : all ≡ takeAll overnight x (map (bytesAt s) (f ∷ fs)))
     (rows : written ≡ splice answers place (rowsOf x (map (bytesAt s) (f ∷ fs))))
-    (room : place + 4 * left ≤ length answers)
+    (room : place + 4 + 4 * left ≤ length answers)
     (big : length answers ≤ 18446744073709551615)
     (turned : turn ≡ turnOf (stateOf w next end) single s at left place)
-    (after : w′ ≡ windowFor (keptBy (stateOf w next end) (packetAt single s at) .waiting) next) where
+    (after : w′ ≡ windowFor (heldBy (stateOf w next end) (packetAt single s at) .waiting) next) where
   p : List ℕ
   p = packetAt single s at
 
@@ -167,19 +221,57 @@ module _ (all : State) (written : List ℕ) (x : State) (s : List ℕ) (single :
   part-of : Bytes (packetAt single s at)
   part-of = part-bytes s (frameAt single s at .start) (frameAt single s at .size) bytes
 
-  pub opens : Open all written s single answers b w′ next turn
-  unfolding takeAll rowsOf p y
+  good : Good (keptBy x (packetAt single s at))
+  good = good-kept g (packetAt single s at) part-of
+
+  after-held : w′ ≡ windowFor (heldBy x (packetAt single s at) .waiting) (x .next)
+  after-held = after ∙ ap₂ windowFor (state-held x g window nexts ends (packetAt single s at)) nexts
+
+  direct-is : turn .direct ≡ cond (straightIn x (packetAt single s at)) (countOf (judge x (packetAt single s at))) 0
+  direct-is = ap (λ (t : Turn). t .direct) turned ∙ state-direct x g window nexts ends (packetAt single s at)
+
+  from-is : turn .from ≡ frameAt single s at .start + min (frameAt single s at .size) 12
+  from-is = ap (λ (t : Turn). t .from) turned
+
+  Led : Type 0
+  Led = Ahead s (turn .direct) (turn .from) (keptBy x (packetAt single s at) .next) w′ (keptBy x (packetAt single s at) .waiting) × (length w′ ≡ 32768)
+
+  led : (b : Bool) → straightIn x (packetAt single s at) ≡ b → Led
+  unfolding Led
+  led true e =
+      let free : (k : ℕ) → x .waiting k ≡ none = nothing-waits (g .inv) (level-of x (packetAt single s at) e) in
+      let is : w′ ≡ windowFor (x .waiting) (x .next) = after-held ∙ ap (λ (z : State). windowFor (z .waiting) (x .next)) (held-by x (packetAt single s at) true e) in
+      let first = ahead-of x s (frameAt single s at .start) (frameAt single s at .size) (lie .0 .within) part-of free is e in
+      let count : countOf (judge x (packetAt single s at)) ≡ turn .direct = sym (direct-is ∙ ap (λ (c : Bool). cond c (countOf (judge x (packetAt single s at))) 0) e) in (
+        subst (λ (n : ℕ). Ahead s (turn .direct) (turn .from) n w′ (keptBy x (packetAt single s at) .waiting)) (sym (kept-next x (judge x (packetAt single s at)) .0))
+            (subst (λ (n : ℕ). Ahead s (turn .direct) n (x .next) w′ (keptBy x (packetAt single s at) .waiting)) (sym from-is)
+            (subst (λ (n : ℕ). Ahead s n (frameAt single s at .start + min (frameAt single s at .size) 12) (x .next) w′ (keptBy x (packetAt single s at) .waiting)) count first)),
+        ap length is ∙ window-size (within g),
+      )
+  led false e =
+      let is : w′ ≡ windowFor (keptBy x (packetAt single s at) .waiting) (keptBy x (packetAt single s at) .next) =
+      after-held ∙ ap (λ (z : State). windowFor (z .waiting) (x .next)) (held-by x (packetAt single s at) false e) ∙ ap (windowFor (keptBy x (packetAt single s at) .waiting)) (sym (kept-next x (judge x (packetAt single s at)) .0)) in
+      let none-left : 0 ≡ turn .direct = sym (direct-is ∙ ap (λ (c : Bool). cond c (countOf (judge x (packetAt single s at))) 0) e) in (
+        subst (λ (n : ℕ). Ahead s n (turn .from) (keptBy x (packetAt single s at) .next) w′ (keptBy x (packetAt single s at) .waiting)) none-left is,
+        ap length is ∙ window-size (within good),
+      )
+
+  pub opens : Open all written s single answers b index w′ next turn (record { left = turn .direct; from = turn .from })
+  unfolding takeAll rowsOf p y Led
   opens =
-      let good : Good (keptBy x (packetAt single s at)) = good-kept g (packetAt single s at) part-of in
       let before : turn .before ≡ next = ap (λ (t : Turn). t .before) turned in
       let kn = kept-next x (judge x (packetAt single s at)) in
+      let begun : turn .begun ≡ true = ap (λ (t : Turn). t .begun) turned in
       let refusal : turn .refusal ≡ refusalOf x (bytesAt s f) =
       ap (λ (t : Turn). t .refusal) turned ∙ state-refusal x g window nexts ends (packetAt single s at) ∙ ap (refusalOf x) (sym same-packet) in
+      let on = led (straightIn x (packetAt single s at)) refl in
       record {
         state = keptBy x (packetAt single s at);
         good = good;
         book = books ∙ ap book.rep (sym (kn .1));
-        window = after ∙ ap (λ (h : ℕ → Option (List ℕ)). windowFor h next) (state-waits x g window nexts ends (packetAt single s at)) ∙ ap (windowFor (keptBy x (packetAt single s at) .waiting)) (nexts ∙ sym (kn .0));
+        indexed = indexed;
+        ahead = on .0;
+        long = on .1;
         at = nexts ∙ sym (kn .0);
         end = ap (λ (t : Turn). t .end) turned ∙ state-end x g window nexts ends (packetAt single s at);
         low = omega arith;
@@ -191,124 +283,215 @@ module _ (all : State) (written : List ℕ) (x : State) (s : List ℕ) (single :
         rows =
             rows
             ∙ ap (λ (z : State). splice answers place (rowWith (x .next) (refusalOf x (bytesAt s f)) z ++ rowsOf z (map (bytesAt s) fs))) taken
-            ∙ (λ i. splice answers (sym (ap (λ (t : Turn). t .place) turned) i) (rowWith (sym (before ∙ nexts) i) (sym refusal i) (finish (keptBy x (packetAt single s at)) (turn .before) next) ++ rowsOf (finish (keptBy x (packetAt single s at)) (turn .before) next) (map (bytesAt s) fs)));
-        room = subst (λ (t : Turn). t .place + 4 * t .left ≤ length answers) (sym turned) room;
+            ∙ (λ i. splice answers (sym (ap (λ (t : Turn). t .place) turned) i) (answerIf (sym begun i) (rowWith (sym (before ∙ nexts) i) (sym refusal i) (finish (keptBy x (packetAt single s at)) (turn .before) next)) ++ rowsOf (finish (keptBy x (packetAt single s at)) (turn .before) next) (map (bytesAt s) fs)));
+        room = subst (λ (t : Turn). placeAfter t + 4 * t .left ≤ length answers) (sym turned) room;
         big = big;
       }
 
--- what waits at next, by the size at its place
-module _ {all : State} {written : List ℕ} {s : List ℕ} {single : Bool} {answers : List ℕ} {b : Book} {w : List ℕ} {next : ℕ} {turn : Turn} (o : Open all written s single answers b w next turn) where
-  pub holds : Neat w next
-  holds = subst (Neat w) (sym (o .at)) (subst (λ (l : List ℕ). Neat l (o .state .next)) (sym (o .window)) (neat (o .good)))
+-- the first of the messages that are left in the packet
+record Leads (s : List ℕ) (left from next : ℕ) (w : List ℕ) (waiting : ℕ → Option (List ℕ)) : Type 0 where
+  waits : waiting next ≡ some (part s from (lengthAt s from))
+  within : from + lengthAt s from ≤ length s
+  rest : Ahead s (left - 1) (from + lengthAt s from) (next + 1) w (freed next waiting)
 
+leads : (s : List ℕ) (left from next : ℕ) (w : List ℕ) (waiting : ℕ → Option (List ℕ)) → (left ≡ 0 → ⊥) → Ahead s left from next w waiting → Leads s left from next w waiting
+leads s zero from next w waiting any a = absurd (any refl)
+leads s (suc left) from next w waiting any a =
+    let one : left ≡ suc left - 1 = omega arith in
+    record { waits = a .0; within = a .1 .0; rest = subst (λ (n : ℕ). Ahead s n (from + lengthAt s from) (next + 1) w (freed next waiting)) one (a .1 .1) }
+
+none-ahead : (s : List ℕ) (left from next : ℕ) (w : List ℕ) (waiting : ℕ → Option (List ℕ)) → left ≡ 0 → Ahead s left from next w waiting → w ≡ windowFor waiting next
+none-ahead s left from next w waiting e a = subst (λ (n : ℕ). Ahead s n from next w waiting) e a
+
+-- what waits at next, by the size where it lies
+module _ {all : State} {written : List ℕ} {s : List ℕ} {single : Bool} {answers : List ℕ} {b : Book} {index w : List ℕ} {next : ℕ} {turn : Turn} {source : Source}
+    (o : Open all written s single answers b index w next turn source) where
   pub keeps : Kept b
   keeps = subst Kept (sym (o .book)) (kept (o .good))
 
+  pub distinct : Distinct (take (b .live) (b .keys))
+  distinct = subst Distinct (sym (ids-of (o .state .tables) (o .book))) (o .good .sound .distinct)
+
   pub closes : Closes turn next (length answers)
-  closes = record { low = o .low; room = omega (arith, o .room, o .left) }
+  closes = record { low = o .low; room = omega (arith, o .room) }
 
-  waits-there : waitsAt w (next % 256) ≡ o .state .waiting (o .state .next)
-  waits-there =
+  waits-in : source .left ≡ 0 → waitsAt w (next % 256) ≡ o .state .waiting (o .state .next)
+  waits-in none-left =
+      let is : w ≡ windowFor (o .state .waiting) (o .state .next) = none-ahead s (source .left) (source .from) (o .state .next) w (o .state .waiting) none-left (o .ahead) in
       sym (waits-place w next next (omega arith) (omega arith))
-      ∙ (λ i. (ap₂ waitingOf (o .window) (o .at) ∙ waiting-for (within (o .good))) i (o .at i))
+      ∙ (λ i. (ap₂ waitingOf is (o .at) ∙ waiting-for (within (o .good))) i (o .at i))
 
-  module _ {size : ℕ} (told : size ≡ sizeAt w (next % 256)) where
+  module _ (some-left : source .left ≡ 0 → ⊥) where
+    led-by : Leads s (source .left) (source .from) (o .state .next) w (o .state .waiting)
+    led-by = leads s (source .left) (source .from) (o .state .next) w (o .state .waiting) some-left (o .ahead)
+
+    led-whole : Whole (part s (source .from) (lengthAt s (source .from)))
+    led-whole = o .good .whole (o .state .next) (part s (source .from) (lengthAt s (source .from))) (led-by .waits)
+
+    led-least : 3 ≤ lengthAt s (source .from)
+    led-least = omega (arith, led-whole .least, part-long s (source .from) (lengthAt s (source .from)))
+
+  pub begins : Begins s source
+  begins = record { within = λ n. omega (arith, led-by n .within, led-least n) }
+
+  module _ {size : ℕ} (told : size ≡ sizeIn w s source (next % 256)) where
     -- nothing waits: the packet at hand is done
     module _ (free : size ≡ 0) where
+      none-left : source .left ≡ 0
+      none-left = by-cases (ℕ-discrete (source .left) 0) (λ e. e) (λ n. absurd (omega (arith, free, told, size-packet source n w s (next % 256), led-least n)))
+
+      window : w ≡ windowFor (o .state .waiting) (o .state .next)
+      window = none-ahead s (source .left) (source .from) (o .state .next) w (o .state .waiting) none-left (o .ahead)
+
+      pub holds : Neat w next
+      holds = subst (Neat w) (sym (o .at)) (subst (λ (l : List ℕ). Neat l (o .state .next)) (sym window) (neat (o .good)))
+
+      pub known : Known w next (turn .end)
+      known = state-known (o .state) (o .good) window (o .at) (o .end) []
+
       front : o .state .waiting (o .state .next) ≡ none
-      front = sym waits-there ∙ place-free w (next % 256) (sym told ∙ free)
+      front = sym (waits-in none-left) ∙ place-free w (next % 256) (sym (size-window source none-left w s (next % 256)) ∙ sym told ∙ free)
 
       settled : finish (o .state) (turn .before) next ≡ o .state
       settled = stuck feed (turn .before + 256 - next) front
 
-      closed : closing turn next ≡ rowWith (turn .before) (turn .refusal) (o .state)
-      closed = λ i. (o .at i - turn .before) ∷ turn .refusal ∷ o .at i ∷ o .end i ∷ []
+      closed : closing turn next ≡ answerIf (turn .begun) (rowWith (turn .before) (turn .refusal) (o .state))
+      closed = λ i. answerIf (turn .begun) ((o .at i - turn .before) ∷ turn .refusal ∷ o .at i ∷ o .end i ∷ [])
+
+      row-long : turn .place + length (closing turn next) ≡ placeAfter turn
+      row-long = go (turn .begun)
+        where
+          go : (begun : Bool) → turn .place + length (answerIf begun ((next - turn .before) ∷ turn .refusal ∷ next ∷ turn .end ∷ [])) ≡ placeIf begun (turn .place)
+          go true = refl
+          go false = omega arith
 
       module _ {answers′ : List ℕ} (put : answers′ ≡ splice answers (turn .place) (closing turn next)) where
-        put-row : written ≡ splice answers′ (turn .place + 4) (rowsOf (o .state) (map (bytesAt s) (o .rest)))
+        put-row : written ≡ splice answers′ (placeAfter turn) (rowsOf (o .state) (map (bytesAt s) (o .rest)))
         put-row =
             o .rows
-            ∙ ap (λ (z : State). splice answers (turn .place) (rowWith (turn .before) (turn .refusal) z ++ rowsOf z (map (bytesAt s) (o .rest)))) settled
+            ∙ ap (λ (z : State). splice answers (turn .place) (rowsFrom turn s z (o .rest))) settled
             ∙ ap (λ (l : List ℕ). splice answers (turn .place) (l ++ rowsOf (o .state) (map (bytesAt s) (o .rest)))) (sym closed)
-            ∙ sym (splice-next answers (turn .place) (closing turn next) (rowsOf (o .state) (map (bytesAt s) (o .rest))) (omega (arith, closes .room)))
-            ∙ ap (λ (l : List ℕ). splice l (turn .place + 4) (rowsOf (o .state) (map (bytesAt s) (o .rest)))) (sym put)
+            ∙ sym (splice-next answers (turn .place) (closing turn next) (rowsOf (o .state) (map (bytesAt s) (o .rest))) (omega (arith, closes .room, row-long)))
+            ∙ ap₂ (λ (l : List ℕ) (n : ℕ). splice l n (rowsOf (o .state) (map (bytesAt s) (o .rest)))) (sym put) row-long
 
         pub same-length : length answers′ ≡ length answers
-        same-length = ap length put ∙ length-splice answers (turn .place) (closing turn next) (closes .room)
+        same-length = ap length put ∙ length-splice answers (turn .place) (closing turn next) (omega (arith, closes .room, row-long))
 
         -- the last one
-        pub ends : turn .left ≡ 1
-            → (_≡_ {A = Session} (record { book = b; window = w; next = next; end = turn .end }) (rep all))
-            × (answers′ ≡ written)
+        pub ends : turn .left ≡ 0 → (sessionOf b index w next (turn .end) ≡ rep all) × (answers′ ≡ written)
         unfolding takeAll rowsOf
-        ends one = go (o .rest) refl
+        ends last = go (o .rest) refl
           where
-            go : (l : List (ℕ × ℕ)) → o .rest ≡ l
-                → (_≡_ {A = Session} (record { book = b; window = w; next = next; end = turn .end }) (rep all))
-                × (answers′ ≡ written)
+            go : (l : List (ℕ × ℕ)) → o .rest ≡ l → (sessionOf b index w next (turn .end) ≡ rep all) × (answers′ ≡ written)
             go [] e =
                 let whole-run : all ≡ o .state = o .session ∙ ap₂ (λ (z : State) (l : List (ℕ × ℕ)). takeAll overnight z (map (bytesAt s) l)) settled e in (
-                  (λ i. record { book = o .book i; window = o .window i; next = o .at i; end = o .end i }) ∙ ap rep (sym whole-run),
-                  sym (put-row ∙ ap (λ (l : List (ℕ × ℕ)). splice answers′ (turn .place + 4) (rowsOf (o .state) (map (bytesAt s) l))) e ∙ splice-none answers′ (turn .place + 4)),
+                  (λ i. sessionOf (o .book i) (index-of (o .state .tables) (o .book) (o .indexed) i) (window i) (o .at i) (o .end i)) ∙ ap rep (sym whole-run),
+                  sym (put-row ∙ ap (λ (l : List (ℕ × ℕ)). splice answers′ (placeAfter turn) (rowsOf (o .state) (map (bytesAt s) l))) e ∙ splice-none answers′ (placeAfter turn)),
                 )
-            go (f ∷ fs) e = absurd (omega (arith, o .left, ap length e))
+            go (f ∷ fs) e = absurd (omega (arith, o .left, last, ap length e))
 
         -- another one
-        module _ (other : turn .left ≡ 1 → ⊥) where
+        module _ (other : turn .left ≡ 0 → ⊥) where
           another : (l : List (ℕ × ℕ)) → o .rest ≡ l → l ≡ [] → ⊥
-          another l e z = other (o .left ∙ ap (λ (k : List (ℕ × ℕ)). suc (length k)) (e ∙ z))
+          another l e z = other (o .left ∙ ap (λ (k : List (ℕ × ℕ)). length k) (e ∙ z))
 
           pub more : Follows single s turn
           more = go (o .rest) refl (o .frames)
             where
               go : (l : List (ℕ × ℕ)) → o .rest ≡ l → Rest single s (turn .at) l → Follows single s turn
               go [] e lie = absurd (another [] e refl)
-              go (f ∷ fs) e lie = record { left = omega (arith, o .left); place = omega (arith, closes .room, o .big); lies = lie .0 }
+              go (f ∷ fs) e lie = record { left = omega (arith, o .left, ap length e); place = omega (arith, closes .room, o .big); lies = lie .0 }
 
-          pub follows : {w′ : List ℕ} {turn′ : Turn} → Bytes s → turn′ ≡ turnOf (stateOf w next (turn .end)) single s (turn .at) (turn .left - 1) (turn .place + 4)
-              → w′ ≡ windowFor (keptBy (stateOf w next (turn .end)) (packetAt single s (turn .at)) .waiting) next
-              → Open all written s single answers′ b w′ next turn′
+          pub follows : {w′ : List ℕ} {turn′ : Turn} → Bytes s → turn′ ≡ turnOf (stateOf w next (turn .end)) single s (turn .at) (turn .left - 1) (placeAfter turn)
+              → w′ ≡ windowFor (heldBy (stateOf w next (turn .end)) (packetAt single s (turn .at)) .waiting) next
+              → Open all written s single answers′ b index w′ next turn′ (record { left = turn′ .direct; from = turn′ .from })
           follows {w′} {turn′} bytes turned after = go (o .rest) refl
             where
-              go : (l : List (ℕ × ℕ)) → o .rest ≡ l → Open all written s single answers′ b w′ next turn′
+              go : (l : List (ℕ × ℕ)) → o .rest ≡ l → Open all written s single answers′ b index w′ next turn′ (record { left = turn′ .direct; from = turn′ .from })
               go [] e = absurd (another [] e refl)
               go (f ∷ fs) e =
-                  opens all written (o .state) s single answers′ bytes (o .good) front (o .book) (o .window) (o .at) (o .end) f fs
+                  opens all written (o .state) s single answers′ bytes (o .good) front (o .book) (o .indexed) window (o .at) (o .end) f fs
                   (subst (Rest single s (turn .at)) e (o .frames))
                   (omega (arith, o .left, ap length e))
                   (o .session ∙ ap₂ (λ (z : State) (l : List (ℕ × ℕ)). takeAll overnight z (map (bytesAt s) l)) settled e)
-                  (put-row ∙ ap (λ (l : List (ℕ × ℕ)). splice answers′ (turn .place + 4) (rowsOf (o .state) (map (bytesAt s) l))) e)
+                  (put-row ∙ ap (λ (l : List (ℕ × ℕ)). splice answers′ (placeAfter turn) (rowsOf (o .state) (map (bytesAt s) l))) e)
                   (omega (arith, o .room, o .left, same-length, ap length e))
                   (omega (arith, o .big, same-length))
                   turned
                   after
 
     -- a message waits: it is applied
-    module _ (used : size ≡ 0 → ⊥) where
+    module _ (used : size ≡ 0 → ⊥) (text : List ℕ) {text′ : List ℕ} (wide : length text ≡ 128) (fetched : text′ ≡ textAfter w text source (next % 256)) where
       abbrev m : List ℕ
-      m = part w (startOf (next % 256)) size
+      m = messageAt (take size text′) s source size
+
+      -- in the window
+      module _ (none-left : source .left ≡ 0) where
+        in-window : o .state .waiting (o .state .next) ≡ some (part w (startOf (next % 256)) size)
+        in-window =
+            let is : size ≡ sizeAt w (next % 256) = told ∙ size-window source none-left w s (next % 256) in
+            sym (waits-in none-left)
+            ∙ place-used w (next % 256) (λ e. used (is ∙ e))
+            ∙ ap (λ (n : ℕ). some (part w (startOf (next % 256)) n)) (sym is)
+
+        short : size ≤ 128
+        short = omega (arith, o .good .whole (o .state .next) (part w (startOf (next % 256)) size) in-window .most, part-long w (startOf (next % 256)) size)
+
+        is-copied : m ≡ part w (startOf (next % 256)) size
+        is-copied =
+            message-window source none-left (take size text′) s size
+            ∙ ap (take size) (fetched ∙ text-window source none-left w text (next % 256))
+            ∙ part-front w (startOf (next % 256)) 128 size short
+
+      -- in the packet
+      module _ (some-left : source .left ≡ 0 → ⊥) where
+        size-led : size ≡ lengthAt s (source .from)
+        size-led = told ∙ size-packet source some-left w s (next % 256)
+
+        is-led : m ≡ part s (source .from) (lengthAt s (source .from))
+        is-led = message-packet source some-left (take size text′) s size ∙ ap (part s (source .from)) size-led
 
       waits : o .state .waiting (o .state .next) ≡ some m
       waits =
-          sym waits-there
-          ∙ place-used w (next % 256) (λ e. used (told ∙ e))
-          ∙ ap (λ (n : ℕ). some (part w (startOf (next % 256)) n)) (sym told)
+          by-cases (ℕ-discrete (source .left) 0)
+          (λ e. in-window e ∙ ap some (sym (is-copied e)))
+          (λ n. led-by n .waits ∙ ap some (sym (is-led n)))
+
+      sized : length m ≡ size
+      sized =
+          by-cases (ℕ-discrete (source .left) 0)
+          (λ e. ap length (is-copied e) ∙ part-long w (startOf (next % 256)) size)
+          (λ n. ap length (is-led n) ∙ part-long s (source .from) (lengthAt s (source .from)) ∙ sym (size-led n))
 
       pub whole : Whole m
       whole = o .good .whole (o .state .next) m waits
 
-      pub short : size ≤ 128
-      short = omega (arith, whole .most, part-long w (startOf (next % 256)) size)
+      pub fits : size ≤ 128
+      fits = omega (arith, whole .most, sized)
+
+      pub wider : length text′ ≡ 128
+      wider =
+          by-cases (ℕ-discrete (source .left) 0)
+          (λ e. ap length (fetched ∙ text-window source e w text (next % 256)) ∙ part-long w (startOf (next % 256)) 128)
+          (λ n. ap length (fetched ∙ text-packet source n w text (next % 256)) ∙ wide)
+
+      pub cut : size ≤ length text′
+      cut = omega (arith, fits, wider)
+
+      pub cut-long : size ≡ length (take size text′)
+      cut-long = sym (length-take-le size text′ cut)
+
+      pub lies : InBytes s source size
+      lies = record { within = λ n. omega (arith, led-by n .within, size-led n) }
+
+      pub goes : length s ≤ 18446744073709551615 → Goes source size
+      goes most = record { within = λ n. omega (arith, lies .within n) }
 
       pub number-below : next < 4294967296
       number-below = omega (arith, o .at, waits-below (o .good) (o .state .next) waits)
 
       pub counted : b .faults .count ≤ next
       counted = subst (λ (c : Book). c .faults .count ≤ next) (sym (o .book)) (subst (λ (n : ℕ). o .state .tables .faults .count ≤ n) (sym (o .at)) (o .good .counted))
-
-      -- the bytes that are lent
-      pub lent-text : {text : List ℕ} → text ≡ part w (startOf (next % 256)) 128 → take size text ≡ m
-      lent-text is = ap (take size) is ∙ part-front w (startOf (next % 256)) 128 size short
 
       early : next < turn .before + 256
       early =
@@ -325,30 +508,55 @@ module _ {all : State} {written : List ℕ} {s : List ℕ} {single : Bool} {answ
           ap (λ (n : ℕ). applyUpTo feed n (o .state)) c
           ∙ ap (λ (q : Option (List ℕ)). applyUpTo feed (turn .before + 256 - (next + 1)) (step feed (o .state) q)) waits
 
-      freed : {w′ : List ℕ} → w′ ≡ splice w (startOf (next % 256)) (zeros 128) → w′ ≡ windowFor (moved .waiting) (moved .next)
+      -- the place in the window is free
+      freed-place : source .left ≡ 0 → splice w (startOf (next % 256)) (zeros 128) ≡ windowFor (moved .waiting) (moved .next)
       unfolding windowFor step moved
-      freed {w′} is =
+      freed-place none-left =
           let x : State = o .state in
           let place : ℕ → Option (List ℕ) = placed (within (o .good)) in
           let i : ℕ = x .next % 256 in
           let lt : i < 256 = mod-lt (x .next) {m = 256} (omega arith) in
+          let is : w ≡ windowFor (x .waiting) (x .next) = none-ahead s (source .left) (source .from) (x .next) w (x .waiting) none-left (o .ahead) in
           let after : InPlaces 256 (with place i none) (step feed x (some m)) =
           step-put (record { holds = in-places (within (o .good)) }) feed m (record { there = with-same place i none; others = λ j lo ne. with-other place i none j ne }) in
-          is
-          ∙ ap₂ (λ (l : List ℕ) (n : ℕ). splice l (startOf (n % 256)) (zeros 128)) (o .window) (o .at)
+          ap₂ (λ (l : List ℕ) (n : ℕ). splice l (startOf (n % 256)) (zeros 128)) is (o .at)
           ∙ clear-window place (fine (within (o .good))) i lt
           ∙ same-window (with place i none) (λ j. step feed x (some m) .waiting (numberAt 256 (x .next + 1) j)) (λ j h. held-place after j h)
 
-      pub applied : {b′ : Book} {w′ : List ℕ} → b′ ≡ book.rep (applyOf (book.view b) next m) → w′ ≡ splice w (startOf (next % 256)) (zeros 128)
-          → Open all written s single answers b′ w′ (next + 1) turn
-      unfolding step moved
-      applied {b′} {w′} books is =
+      Led′ : Type 0
+      Led′ = Ahead s (onwardOf source size .left) (onwardOf source size .from) (moved .next) (windowAfter w source (next % 256)) (moved .waiting) × (length (windowAfter w source (next % 256)) ≡ 32768)
+
+      led-on : Led′
+      unfolding Led′ step freedAt moved
+      led-on =
+          by-cases (ℕ-discrete (source .left) 0)
+          (λ e.
+          let is : windowAfter w source (next % 256) ≡ windowFor (moved .waiting) (moved .next) = freed-window source e w (next % 256) ∙ freed-place e in
+          let nought : 0 ≡ onwardOf source size .left = sym (ap (λ (z : Source). z .left) (onward-window source e size) ∙ e) in
+          (subst (λ (n : ℕ). Ahead s n (onwardOf source size .from) (moved .next) (windowAfter w source (next % 256)) (moved .waiting)) nought is, ap length is ∙ window-size (within (good-step (o .good) waits))))
+          (λ n.
+          let on : onwardOf source size ≡ record { left = source .left - 1; from = source .from + size } = onward-packet source n size in
+          let to : source .from + lengthAt s (source .from) ≡ source .from + size = ap (λ (k : ℕ). source .from + k) (sym (size-led n)) in (
+            subst (λ (z : Source). Ahead s (z .left) (z .from) (moved .next) (windowAfter w source (next % 256)) (moved .waiting)) (sym on)
+                (subst (λ (l : List ℕ). Ahead s (source .left - 1) (source .from + size) (moved .next) l (moved .waiting)) (sym (freed-packet source n w (next % 256)))
+                (subst (λ (k : ℕ). Ahead s (source .left - 1) k (moved .next) w (moved .waiting)) to (led-by n .rest))),
+            ap length (freed-packet source n w (next % 256)) ∙ o .long,
+          ))
+
+      pub applied : {b′ : Book} {index′ w′ : List ℕ} {source′ : Source} → b′ ≡ book.rep (applyOf (book.view b) next m) → Indexed index′ (b′ .keys) (b′ .live)
+          → w′ ≡ windowAfter w source (next % 256) → source′ ≡ onwardOf source size → Open all written s single answers b′ index′ w′ (next + 1) turn source′
+      unfolding step moved Led′
+      applied {b′} {index′} {w′} {source′} books indexed is on =
           let tables : book.view b ≡ o .state .tables = ap book.view (o .book) ∙ keeping.view-rep (o .state .tables) in
           record {
             state = step feed (o .state) (some m);
             good = good-step (o .good) waits;
             book = books ∙ ap₂ (λ (t : Tables) (n : ℕ). book.rep (applyOf t n m)) tables (o .at);
-            window = freed is;
+            indexed = indexed;
+            ahead =
+                subst (λ (z : Source). Ahead s (z .left) (z .from) (o .state .next + 1) w′ (freedAt (o .state))) (sym on)
+                (subst (λ (l : List ℕ). Ahead s (onwardOf source size .left) (onwardOf source size .from) (o .state .next + 1) l (freedAt (o .state))) (sym is) (led-on .0));
+            long = ap length is ∙ led-on .1;
             at = ap (λ (n : ℕ). n + 1) (o .at);
             end = o .end;
             low = omega (arith, o .low);
@@ -357,24 +565,10 @@ module _ {all : State} {written : List ℕ} {s : List ℕ} {single : Bool} {answ
             frames = o .frames;
             left = o .left;
             session = o .session ∙ ap (λ (z : State). takeAll overnight z (map (bytesAt s) (o .rest))) onward;
-            rows = o .rows ∙ ap (λ (z : State). splice answers (turn .place) (rowWith (turn .before) (turn .refusal) z ++ rowsOf z (map (bytesAt s) (o .rest)))) onward;
+            rows = o .rows ∙ ap (λ (z : State). splice answers (turn .place) (rowsFrom turn s z (o .rest))) onward;
             room = o .room;
             big = o .big;
           }
-
-      module _ {text : List ℕ} (copied : text ≡ part w (startOf (next % 256)) 128) where
-        pub room-text : size ≤ length text
-        room-text = omega (arith, short, ap length copied, part-long w (startOf (next % 256)) 128)
-
-        pub length-text : size ≡ length (take size text)
-        length-text = sym (length-take-le size text room-text)
-
-        pub whole-text : Whole (take size text)
-        whole-text = subst Whole (sym (lent-text copied)) whole
-
-        pub applied-text : {b′ : Book} {w′ : List ℕ} → b′ ≡ book.rep (applyOf (book.view b) next (take size text)) → w′ ≡ splice w (startOf (next % 256)) (zeros 128)
-            → Open all written s single answers b′ w′ (next + 1) turn
-        applied-text books is = applied (books ∙ ap (λ (l : List ℕ). book.rep (applyOf (book.view b) next l)) (lent-text copied)) is
 
       -- the steps that are left
       pub fewer : turn .before + 256 - (next + 1) < turn .before + 256 - next
@@ -391,65 +585,74 @@ pub bytes-of : (s : List ℕ) → ((i : ℕ) → getD s i 0 < 256) → Bytes s
 bytes-of [] h = tt
 bytes-of (b ∷ s) h = (h 0, bytes-of s (λ i. h (suc i)))
 
+-- where the burst begins: no packet is at hand
 module _ {session : Session} (rule : Ruled session) (s : List ℕ) (single : Bool) {count : ℕ} (answers : List ℕ) (runs : Runs single s count (length answers)) where
-  pub start-neat : Neat (session .window) (session .next)
-  start-neat = subst (λ (z : Session). Neat (z .window) (z .next)) (sym (stands rule .same)) (neat (stands rule .good))
+  pub starts : {turn : Turn} → turn ≡ atStart (session .next) (session .end) count
+      → Open (takeAll overnight (view session) (take count (packetsOf single s))) (splice answers 0 (rowsOf (view session) (take count (packetsOf single s)))) s single answers (bookIn session) (session .index) (session .window) (session .next) turn (record { left = 0; from = 0 })
+  starts {turn} turned =
+      let h : Stands session = stands rule in
+      let x : State = h .state in
+      let nexts : session .next ≡ x .next = ap (λ (z : Session). z .next) (h .same) in
+      let books : bookIn session ≡ book.rep (x .tables) = ap bookIn (h .same) in
+      let is : session .window ≡ windowFor (x .waiting) (x .next) = ap (λ (z : Session). z .window) (h .same) in
+      let first : List (ℕ × ℕ) = take count (framesOf single s) in
+      let packets : take count (packetsOf single s) ≡ map (bytesAt s) first = take-map count (bytesAt s) (framesOf single s) in
+      let many : length first ≡ count = length-take-le count (framesOf single s) (runs .all) in
+      let before : turn .before ≡ session .next = ap (λ (t : Turn). t .before) turned in
+      let done : x ≡ finish x (turn .before) (session .next) = sym (stuck feed (turn .before + 256 - session .next) (h .front)) in
+      record {
+        state = x;
+        good = h .good;
+        book = books;
+        indexed = subst (λ (z : Session). Indexed (z .index) (z .keys) (z .live)) (sym (h .same)) (indexed-rep (h .good));
+        ahead = is;
+        long = ap length is ∙ window-size (within (h .good));
+        at = nexts;
+        end = ap (λ (t : Turn). t .end) turned ∙ ap (λ (z : Session). z .end) (h .same);
+        low = omega arith;
+        near = λ k l. h .good .inv .near k (omega (arith, before, nexts));
+        rest = first;
+        frames = subst (λ (n : ℕ). Rest single s n first) (sym (ap (λ (t : Turn). t .at) turned)) (rest-first count single s 0 (framesOf single s) (all-rest single s));
+        left = ap (λ (t : Turn). t .left) turned ∙ sym many;
+        session = (λ i. takeAll overnight (meaning h i) (packets i)) ∙ ap (λ (z : State). takeAll overnight z (map (bytesAt s) first)) done;
+        rows =
+            (λ i. splice answers 0 (rowsOf (meaning h i) (packets i)))
+            ∙ ap (λ (z : State). splice answers 0 (rowsOf z (map (bytesAt s) first))) done
+            ∙ (λ i. splice answers (sym (ap (λ (t : Turn). t .place) turned) i) (answerIf (sym (ap (λ (t : Turn). t .begun) turned) i) (rowWith (turn .before) (turn .refusal) (finish x (turn .before) (session .next))) ++ rowsOf (finish x (turn .before) (session .next)) (map (bytesAt s) first)));
+        room = subst (λ (t : Turn). placeAfter t + 4 * t .left ≤ length answers) (sym turned) (omega (arith, runs .room));
+        big = runs .big;
+      }
 
-  some-frame : (l : List (ℕ × ℕ)) → framesOf single s ≡ l → l ≡ [] → ⊥
-  some-frame l e z = omega (arith, runs .some, runs .all, ap length (e ∙ z))
-
-  pub start-lies : Lies single s 0
-  start-lies = go (framesOf single s) refl (all-rest single s)
-    where
-      go : (l : List (ℕ × ℕ)) → framesOf single s ≡ l → Rest single s 0 l → Lies single s 0
-      go [] e lie = absurd (some-frame [] e refl)
-      go (f ∷ fs) e lie = lie .0
-
-  pub starts : {w : List ℕ} {turn : Turn} → Bytes s → turn ≡ turnOf (stateOf (session .window) (session .next) (session .end)) single s 0 count 0
-      → w ≡ windowFor (keptBy (stateOf (session .window) (session .next) (session .end)) (packetAt single s 0) .waiting) (session .next)
-      → Open (takeAll overnight (view session) (packetsOf single s)) (splice answers 0 (rowsOf (view session) (packetsOf single s))) s single answers (session .book) w (session .next) turn
-  starts {w} {turn} bytes turned after = go (framesOf single s) refl
-    where
-      h : Stands session
-      h = stands rule
-
-      go : (l : List (ℕ × ℕ)) → framesOf single s ≡ l
-          → Open (takeAll overnight (view session) (packetsOf single s)) (splice answers 0 (rowsOf (view session) (packetsOf single s))) s single answers (session .book) w (session .next) turn
-      go [] e = absurd (some-frame [] e refl)
-      go (f ∷ fs) e =
-          opens (takeAll overnight (view session) (packetsOf single s)) (splice answers 0 (rowsOf (view session) (packetsOf single s))) (h .state) s single answers bytes (h .good) (h .front)
-          (ap (λ (z : Session). z .book) (h .same))
-          (ap (λ (z : Session). z .window) (h .same))
-          (ap (λ (z : Session). z .next) (h .same))
-          (ap (λ (z : Session). z .end) (h .same))
-          f
-          fs
-          (subst (Rest single s 0) e (all-rest single s))
-          (runs .all ∙ ap length e)
-          (ap₂ (λ (z : State) (l : List (ℕ × ℕ)). takeAll overnight z (map (bytesAt s) l)) (meaning h) e)
-          (ap₂ (λ (z : State) (l : List (ℕ × ℕ)). splice answers 0 (rowsOf z (map (bytesAt s) l))) (meaning h) e)
-          (omega (arith, runs .room))
-          (runs .big)
-          turned
-          after
-
--- from where the loop begins: whatever is to come there is still to come
-pub record Going (s : List ℕ) (single : Bool) (answers₀ : List ℕ) (b₀ : Book) (w₀ : List ℕ) (next₀ : ℕ) (turn₀ : Turn) (answers : List ℕ) (b : Book) (w : List ℕ) (next : ℕ) (turn : Turn) : Type 0 where
-  pub all : State
-  pub written : List ℕ
-  pub begun : Open all written s single answers₀ b₀ w₀ next₀ turn₀
+-- what the loop keeps
+pub record Going (all : State) (written : List ℕ) (s : List ℕ) (single : Bool) (answers₀ answers : List ℕ) (b : Book) (index w : List ℕ) (next : ℕ) (turn : Turn) (source : Source) (text : List ℕ) : Type 0 where
+  pub here : Open all written s single answers b index w next turn source
+  pub wide : length text ≡ 128
   pub same : length answers ≡ length answers₀
-  pub on : (end : State) (rows : List ℕ) → Open end rows s single answers₀ b₀ w₀ next₀ turn₀ → Open end rows s single answers b w next turn
 
-module _ {s : List ℕ} {single : Bool} {answers₀ : List ℕ} {b₀ : Book} {w₀ : List ℕ} {next₀ : ℕ} {turn₀ : Turn} {answers : List ℕ} {b : Book} {w : List ℕ} {next : ℕ} {turn : Turn}
-    (g : Going s single answers₀ b₀ w₀ next₀ turn₀ answers b w next turn) where
-  pub here : Open (g .all) (g .written) s single answers b w next turn
-  here = g .on (g .all) (g .written) (g .begun)
+-- ---- the index, behind an order that came or went
 
-  pub goes-on : {answers′ : List ℕ} {b′ : Book} {w′ : List ℕ} {next′ : ℕ} {turn′ : Turn}
-      → ((end : State) (rows : List ℕ) → Open end rows s single answers b w next turn → Open end rows s single answers′ b′ w′ next′ turn′)
-      → length answers′ ≡ length answers → Going s single answers₀ b₀ w₀ next₀ turn₀ answers′ b′ w′ next′ turn′
-  goes-on step size = record { all = g .all; written = g .written; begun = g .begun; same = size ∙ g .same; on = λ end rows o. step end rows (g .on end rows o) }
+past-last : (n : ℕ) (l : List ℕ) (x : ℕ) → take n (set l n x) ≡ take n l
+past-last zero l x = refl
+past-last (suc n) [] x = refl
+past-last (suc n) (a ∷ l) x = ap (λ (k : List ℕ). a ∷ k) (past-last n l x)
 
-pub going : {all : State} {written s : List ℕ} {single : Bool} {answers : List ℕ} {b : Book} {w : List ℕ} {next : ℕ} {turn : Turn} → Open all written s single answers b w next turn → Going s single answers b w next turn answers b w next turn
-going {all} {written} o = record { all = all; written = written; begun = o; same = refl; on = λ end rows p. p }
+module _ {index keys : List ℕ} {live : ℕ} (x : Indexed index keys live) where
+  pub put-asks : live < 256 → (ids : List ℕ) × Room index ids live
+  put-asks few = (take live keys, asks-put index keys live x few)
+
+  pub put-keeps : {after : List ℕ} (key : ℕ) → live < 256 → ((ids : List ℕ) → Room index ids live → after ≡ indexOf (ids ++ (key ∷ []))) → Indexed after (set keys live key) (live + 1)
+  put-keeps {after} key few is = kept-put index keys live x key few (is (take live keys) (asks-put index keys live x few))
+
+  module _ {place : ℕ} (within : place < live) where
+    last-one : live ≡ live - 1 + 1
+    last-one = omega arith
+
+    pub remove-asks : (ids : List ℕ) × Leaving index ids (live - 1) place (getD keys place 0) (getD keys (live - 1) 0)
+    remove-asks = (take live keys, asks-remove index keys live x (live - 1) place last-one (omega arith))
+
+    pub remove-keeps : {after : List ℕ} → ((ids : List ℕ) → Leaving index ids (live - 1) place (getD keys place 0) (getD keys (live - 1) 0) → after ≡ indexOf (without 0 place ids))
+        → Indexed after (set (set keys place (getD keys (live - 1) 0)) (live - 1) 0) (live - 1)
+    remove-keeps is =
+        kept-remove index keys live x (live - 1) place last-one (omega arith) (is (take live keys) (asks-remove index keys live x (live - 1) place last-one (omega arith)))
+        (length-set (set keys place (getD keys (live - 1) 0)) (live - 1) 0 ∙ length-set keys place (getD keys (live - 1) 0) ∙ x .size)
+        (past-last (live - 1) (set keys place (getD keys (live - 1) 0)) 0)

@@ -7,6 +7,7 @@ use mathlib.Core.Option.{Option, none, some, Option·none-ne-some}
 use Prim.Native.Nat.{ℕ, zero, suc, _+_, _≤_, _<_}
 use native.Mathlib.Decide.{decLt, ℕ-discrete}
 use native.Mathlib.Omega.{arith}
+use lib.ListN.{length-map, take}
 use Rattle.wire.specs.Number.{Bytes}
 use Rattle.merge.specs.Session.{Packet, applyUpTo, copyOf, endOf, firstOf, freedAt, keep, keptAt, opened, step, takeAll, takeIf, takeOne}
 use Rattle.merge.specs.History.{accepted}
@@ -19,7 +20,10 @@ use Rattle.merge.proofs.Window.{next-end, waits-where}
 use Rattle.book.specs.Applying.{Whole, applyOf}
 use Rattle.book.specs.Rule.{Kept, Ready, Sound}
 use Rattle.book.specs.Tables as book
-use Rattle.book.specs.Tables.{Tables}
+use Rattle.book.specs.Tables.{Tables, idsOf}
+use Rattle.book.specs.declared.tables.Book.{Book}
+use Rattle.book.proofs.Steps.{front-keys}
+use Rattle.index.specs.Chains.{Indexed, indexOf}
 use Rattle.book.proofs.Keeping as keeping
 use Rattle.book.proofs.Laws.{counted-next}
 use Rattle.taking.specs.Keeping.{Neat, keptBy, keptIf, windowFor}
@@ -113,6 +117,17 @@ good-open n small =
       whole = λ k m e. absurd (Option·none-ne-some _ e);
       top = omega arith;
     }
+
+-- the live keys of a book are its orders' ids, and the index is over them
+pub ids-of : {b : Book} (t : Tables) → b ≡ book.rep t → take (b .live) (b .keys) ≡ idsOf (t .orders)
+ids-of {b} t is =
+    front-keys 256 (idsOf (t .orders)) (ap (λ (c : Book). c .keys) is) (ap (λ (c : Book). c .live) is ∙ sym (length-map (t .orders) (λ o. o .id)))
+
+pub index-of : {b : Book} (t : Tables) {index : List ℕ} → b ≡ book.rep t → Indexed index (b .keys) (b .live) → index ≡ indexOf (idsOf (t .orders))
+index-of t is indexed = indexed .is ∙ ap indexOf (ids-of t is)
+
+pub indexed-rep : {x : State} → Good x → Indexed (indexOf (idsOf (x .tables .orders))) (book.rep (x .tables) .keys) (book.rep (x .tables) .live)
+indexed-rep {x} g = record { few = kept g .live; size = kept g .keys; is = ap indexOf (sym (ids-of {b = book.rep (x .tables)} (x .tables) refl)) }
 
 go-step : {x : State} → Good x → (o : Option (List ℕ)) → x .waiting (x .next) ≡ o → Good (step feed x o)
 unfolding step

@@ -79,9 +79,13 @@ burstOf x packets n =
 unfoldable pub answersAfter : State → List (List ℕ) → List ℕ → List ℕ
 answersAfter x packets answers = cond (ltb (length answers) (4 * length packets)) answers (splice answers 0 (rowsOf x packets))
 
--- what the engine asks for: so many packets, at least one, and room for their answers
+-- the count, where the answers fit
+abbrev pub countIf : Bool → ℕ → Count
+countIf true n = count.Packets n
+countIf false n = count.Refused 11
+
+-- what the engine asks for: so many packets are there, with room for their answers
 pub record Runs (single : Bool) (s : List ℕ) (count n : ℕ) : Type 0 where
-  pub all : count ≡ length (framesOf single s)
-  pub some : 1 ≤ count
+  pub all : count ≤ length (framesOf single s)
   pub room : 4 * count ≤ n
   pub big : n ≤ 18446744073709551615

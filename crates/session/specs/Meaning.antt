@@ -9,7 +9,9 @@ use Rattle.merge.specs.Session as merge
 use Rattle.merge.specs.Session.{Channel, Feed, opened, takeAll, takeOne}
 use Rattle.book.specs.Applying.{applyOf}
 use Rattle.book.specs.Tables as book
-use Rattle.book.specs.Tables.{Tables, fresh}
+use Rattle.book.specs.Tables.{Tables, fresh, idsOf}
+use Rattle.book.specs.declared.tables.Book.{Book}
+use Rattle.index.specs.Chains.{indexOf}
 use Rattle.taking.specs.Keeping.{waitingOf, windowFor}
 use Rattle.taking.specs.Taking.{channel}
 use Rattle.session.specs.declared.state.Session.{Session}
@@ -24,13 +26,47 @@ feed = record { start = fresh; apply = applyOf }
 abbrev pub overnight : Channel (List ℕ) (List ℕ) Tables
 overnight = channel feed
 
+-- the tables of a session, as a book has them
+abbrev pub bookIn : Session → Book
+bookIn s =
+    record {
+      orders = s .orders;
+      keys = s .keys;
+      live = s .live;
+      insides = s .insides;
+      fronts = s .fronts;
+      backs = s .backs;
+      held = s .held;
+      code = s .code;
+      faults = s .faults;
+    }
+
+-- the session with these tables, index, window, next and end
+abbrev pub sessionOf : Book → List ℕ → List ℕ → ℕ → ℕ → Session
+sessionOf b index window next end =
+    record {
+      orders = b .orders;
+      keys = b .keys;
+      insides = b .insides;
+      fronts = b .fronts;
+      backs = b .backs;
+      live = b .live;
+      held = b .held;
+      next = next;
+      end = end;
+      faults = b .faults;
+      index = index;
+      code = b .code;
+      window = window;
+    }
+
 -- the one session that holds a meaning
 abbrev pub rep : State → Session
-rep x = record { book = book.rep (x .tables); window = windowFor (x .waiting) (x .next); next = x .next; end = x .end }
+rep x = sessionOf (book.rep (x .tables)) (indexOf (idsOf (x .tables .orders))) (windowFor (x .waiting) (x .next)) (x .next) (x .end)
 
 -- the meaning of a session
 abbrev pub view : Session → State
-view s = record { next = s .next; end = s .end; waiting = waitingOf (s .window) (s .next); tables = book.view (s .book) }
+view s = record { next = s .next; end = s .end; waiting = waitingOf (s .window) (s .next); tables = book.view (bookIn s) }
 
 -- byte strings
 abbrev pub AllBytes : List (List ℕ) → Type 0

@@ -1,5 +1,6 @@
 // What can be asked of a session, and the requests for what was lost.
 use crate::state::Session;
+use crate::state::book_of;
 use book::asking;
 use book::asking::BestReply;
 use book::asking::InsideReply;
@@ -31,35 +32,35 @@ pub fn end(session: Session) -> u64
 pub fn code(session: Session) -> u8
     ensures { λ r. ⌜ r ≡ view session .tables .code ⌝ }
 {
-    session.book.code
+    session.code
 }
 
 // The first fault's number and reason, and how many messages faulted.
 pub fn faults(session: Session) -> Faults
     ensures { λ r. ⌜ r ≡ view session .tables .faults ⌝ }
 {
-    session.book.faults
+    session.faults
 }
 
 pub fn order(session: Session, id: [u8; 14]) -> OrderReply
     requires { ⌜ Ruled session ⌝ }
     ensures { λ r. ⌜ r ≡ orderAsked (view session .tables) id ⌝ }
 {
-    asking::order(session.book, id)
+    asking::order(book_of(session), id)
 }
 
 pub fn best(session: Session, symbol: [u8; 14], side: u8) -> BestReply
     requires { ⌜ Ruled session ⌝ }
     ensures { λ r. ⌜ r ≡ bestAsked (view session .tables) symbol side ⌝ }
 {
-    asking::best(session.book, symbol, side)
+    asking::best(book_of(session), symbol, side)
 }
 
 pub fn inside(session: Session, symbol: [u8; 14]) -> InsideReply
     requires { ⌜ Ruled session ⌝ }
     ensures { λ r. ⌜ r ≡ insideAsked (view session .tables) symbol ⌝ }
 {
-    asking::inside(session.book, symbol)
+    asking::inside(book_of(session), symbol)
 }
 
 // One request for each run of missing numbers.

@@ -7,7 +7,7 @@ ghost use Prim.Native.Nat.{_≤_};
 ghost use lib.Dec.{eqb};
 ghost use lib.ListN.{length};
 ghost use Rattle.session.specs.Meaning.{view, Ruled};
-ghost use Rattle.session.specs.Bursts.{takenOf, burstFrom, burstOf, answersAfter, answered, packetsIn};
+ghost use Rattle.session.specs.Bursts.{takenOf, burstFrom, burstOf, countIf, answersAfter, answered, packetsIn};
 
 pub enum Answer {
     // How many messages were applied.
@@ -76,6 +76,22 @@ fn whole(s: &[u8]) -> usize
     }
 }
 
+// None is taken where the answers do not fit.
+fn due_of(fits: bool, count: usize) -> usize
+    ensures { λ r. ⌜ r ≡ cond fits count 0 ⌝ }
+{
+    if fits { count } else { 0 }
+}
+
+fn count_of(fits: bool, count: usize) -> Count
+    ensures { λ r. ⌜ r ≡ countIf fits count ⌝ }
+{
+    if fits {
+        return Count::Packets(count);
+    }
+    Count::Refused(11)
+}
+
 // Several packets, each behind its length of 2 bytes. Four numbers answer each: how many messages
 // were applied, the refusal or 0, then next and end.
 pub fn burst(session: Session, packets: &[u8], answers: &mut [u64]) -> TakenAll
@@ -85,21 +101,11 @@ pub fn burst(session: Session, packets: &[u8], answers: &mut [u64]) -> TakenAll
     ensures rule { λ r. ⌜ Ruled (r .session) ⌝ }
 {
     let count = whole(packets);
-    if answers.len() / 4 < count {
-        return TakenAll {
-            session,
-            count: Count::Refused(11),
-        };
-    }
-    if count == 0 {
-        return TakenAll {
-            session,
-            count: Count::Packets(0),
-        };
-    }
-    let after = run(session, packets, false, count, answers);
+    let fits = count <= answers.len() / 4;
+    let due = due_of(fits, count);
+    let after = run(session, packets, false, due, answers);
     TakenAll {
         session: after,
-        count: Count::Packets(count),
+        count: count_of(fits, count),
     }
 }

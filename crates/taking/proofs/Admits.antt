@@ -1,12 +1,12 @@
 -- A packet judged by 1 to 10, by the test that decides; where none does, it is kept.
 -- Assumes nothing.
 use mathlib.Core.Path.{_≡_, refl, ap, _∙_, sym, subst}
-use mathlib.Core.Bool.{Bool, true, false, cond, not}
+use mathlib.Core.Bool.{Bool, true, false, cond, not, _&&_}
 use mathlib.Core.List.{List, [], _∷_, _++_, map}
 use mathlib.Core.Option.{Option, none, some}
 use Prim.Native.Nat.{ℕ, _+_, _-_, _%_, _≤_, _<_, max}
 use native.Mathlib.Omega.{arith}
-use borrow.Author.Tests.{eq-eqb, ne-eqb, le-leb, lt-leb, ltb-false}
+use borrow.Author.Tests.{eq-eqb, eqb-true, ne-eqb, le-leb, lt-leb, ltb-false}
 use lib.Dec.{eqb, leb, ltb}
 use lib.ListN.{length, length-map}
 use Rattle.wire.specs.Choice.{firstOf}
@@ -19,8 +19,10 @@ use Rattle.packet.specs.Walk.{framesFrom, walkFrom}
 use Rattle.packet.specs.declared.header.Header.{Header}
 use Rattle.packet.specs.declared.header.Judged.{Judged}
 use Rattle.packet.proofs.Judgements.{decides, header-numbered, joined, passes}
-use Rattle.taking.specs.Taking.{bytesAt, differFrom, framesIn, isSome, judge, nine, orZero, packetIn, takeTests, ten, waitTests}
-use Rattle.taking.specs.Keeping.{waitingOf, windowFor, stateOf, Neat, Passed, keptIf, keptBy, admittedOf}
+use Rattle.merge.proofs.Places.{waiting-below}
+use Rattle.waiting.specs.Window.{waitsAt}
+use Rattle.taking.specs.Taking.{bytesAt, differAt, differFrom, framesIn, isSome, judge, nine, orZero, packetIn, takeTests, ten, waitTests}
+use Rattle.taking.specs.Keeping.{waitingOf, windowFor, stateOf, startsAt, countOf, straightIn, Known, Neat, Passed, heldBy, keptIf, keptBy, admittedOf}
 use Rattle.taking.specs.declared.admitting.Admitted.{Admitted}
 use Rattle.taking.proofs.Accepted.{first-not, length-frames, packet-numbered, second}
 use Rattle.taking.proofs.Keeps.{same-kept}
@@ -29,31 +31,132 @@ use Rattle.taking.proofs.Walks.{unbroken}
 -- an answer and the window behind it are those of the definition
 pub record Admits (w s : List ℕ) (next end : ℕ) (r : Admitted) (after : List ℕ) : Type 0 where
   pub answer : r ≡ admittedOf (stateOf w next end) s
-  pub kept : after ≡ windowFor (keptBy (stateOf w next end) s .waiting) next
+  pub kept : after ≡ windowFor (heldBy (stateOf w next end) s .waiting) next
+
+pub and-left : (a b : Bool) → (a && b) ≡ true → a ≡ true
+and-left true b e = refl
+and-left false b e = e
+
+none-of : (b : Bool) (n : ℕ) → n ≡ 0 → cond b n 0 ≡ 0
+none-of true n e = e
+none-of false n e = refl
+
+judge-no : {Table : Type 0} (x : Session (List ℕ) Table) (s : List ℕ) {n : ℕ} → decided (takeTests x s) .0 ≡ n → (n ≡ 0 → ⊥) → judge x s ≡ none
+unfolding judge
+judge-no x s h named = ap (λ (b : Bool). cond b (some (packetIn s)) none) (ne-eqb (decided (takeTests x s) .0) 0 (λ e. named (sym h ∙ e)))
+
+judge-yes : {Table : Type 0} (x : Session (List ℕ) Table) (s : List ℕ) → decided (takeTests x s) .0 ≡ 0 → judge x s ≡ some (packetIn s)
+unfolding judge
+judge-yes x s h = ap (λ (b : Bool). cond b (some (packetIn s)) none) (eq-eqb (decided (takeTests x s) .0) 0 h)
+
+-- where nothing waits, nothing differs
+pub none-differs : (waiting : ℕ → Option (List ℕ)) → ((k : ℕ) → waiting k ≡ none) → (k : ℕ) (frames : List (ℕ × ℕ)) (s : List ℕ) → isSome (differFrom waiting k frames s) ≡ false
+unfolding differFrom
+none-differs waiting h k [] s = refl
+none-differs waiting h k (frame ∷ frames) s =
+    ap
+    (λ (o : Option (List ℕ)).
+    isSome
+    (elim (differAt o (bytesAt s frame)) [
+      | none ↦ differFrom waiting (k + 1) frames s
+      | some at ↦ some (frame .0 + at)
+    ]))
+    (h k)
+    ∙ none-differs waiting h (k + 1) frames s
+
+pub none-waits : {w : List ℕ} {next end : ℕ} → Known w next end → end ≡ next → (k : ℕ) → waitingOf w next k ≡ none
+unfolding waitingOf
+none-waits {w} {next} {end} known level k = go (waitingOf w next k) refl
+  where
+    below : k < next → waitingOf w next k ≡ none
+    below l = waiting-below 256 (waitsAt w) next k l
+
+    go : (o : Option (List ℕ)) → waitingOf w next k ≡ o → o ≡ none
+    go none e = refl
+    go (some m) e = sym e ∙ below (omega (arith, known .below k m e, level))
 
 module _ {w : List ℕ} (s : List ℕ) {next : ℕ} (end : ℕ) (neat : Neat w next) where
   abbrev x : Session (List ℕ) (Unit {0})
   x = stateOf w next end
 
-  -- a test that applies refuses, and nothing changes
-  refused : (n : ℕ) → decided (takeTests x s) .0 ≡ n → (n ≡ 0 → ⊥) → Admits w s next end (record { refusal = n; end = end }) w
-  unfolding admittedOf keptIf judge
-  refused n h named =
-      let no : judge x s ≡ none = ap (λ (b : Bool). cond b (some (packetIn s)) none) (ne-eqb (decided (takeTests x s) .0) 0 (λ e. named (sym h ∙ e))) in
-      record {
-        answer = λ i. record { refusal = sym h i; end = sym (ap (λ (o : Option (Packet (List ℕ))). keptIf x o .end) no) i };
-        kept = neat .same ∙ sym (ap (λ (o : Option (Packet (List ℕ))). windowFor (keptIf x o .waiting) next) no);
-      }
+  held-straight : straightIn x s ≡ true → heldBy x s ≡ x
+  unfolding heldBy
+  held-straight e = ap (λ (b : Bool). cond b x (keptBy x s)) e
 
-  -- where none applies, the packet is kept
-  taken : decided (takeTests x s) .0 ≡ 0 → {after : List ℕ} {to : ℕ} → to ≡ keep x (packetIn s) .end → after ≡ windowFor (keep x (packetIn s) .waiting) next → Admits w s next end (record { refusal = 0; end = to }) after
-  unfolding admittedOf keptIf judge
-  taken h ends is =
-      let yes : judge x s ≡ some (packetIn s) = ap (λ (b : Bool). cond b (some (packetIn s)) none) (eq-eqb (decided (takeTests x s) .0) 0 h) in
+  held-apart : straightIn x s ≡ false → heldBy x s ≡ keptBy x s
+  unfolding heldBy
+  held-apart e = ap (λ (b : Bool). cond b x (keptBy x s)) e
+
+  -- whether the packet goes straight on or is kept, what it leaves behind is the window as it was
+  same-held : {after : List ℕ} → after ≡ windowFor (x .waiting) next → after ≡ windowFor (keptBy x s .waiting) next → after ≡ windowFor (heldBy x s .waiting) next
+  same-held {after} one other = go (straightIn x s) refl
+    where
+      go : (b : Bool) → straightIn x s ≡ b → after ≡ windowFor (heldBy x s .waiting) next
+      go true e = one ∙ ap (λ (y : Session (List ℕ) (Unit {0})). windowFor (y .waiting) next) (sym (held-straight e))
+      go false e = other ∙ ap (λ (y : Session (List ℕ) (Unit {0})). windowFor (y .waiting) next) (sym (held-apart e))
+
+  answers : {n to d : ℕ} → decided (takeTests x s) .0 ≡ n → to ≡ keptBy x s .end → d ≡ cond (straightIn x s) (countOf (judge x s)) 0
+      → _≡_ {A = Admitted} (record { refusal = n; end = to; direct = d }) (admittedOf x s)
+  unfolding admittedOf
+  answers h e c = λ i. record { refusal = sym h i; end = e i; direct = c i }
+
+  kept-none : {o : Option (Packet (List ℕ))} → o ≡ none → keptIf x o ≡ x
+  unfolding keptIf
+  kept-none e = ap (keptIf x) e
+
+  kept-some : {o : Option (Packet (List ℕ))} {p : Packet (List ℕ)} → o ≡ some p → keptIf x o ≡ keep x p
+  unfolding keptIf
+  kept-some e = ap (keptIf x) e
+
+  -- a test that applies refuses, and nothing changes
+  refused : (n : ℕ) → decided (takeTests x s) .0 ≡ n → (n ≡ 0 → ⊥) → Admits w s next end (record { refusal = n; end = end; direct = 0 }) w
+  refused n h named =
       record {
-        answer = λ i. record { refusal = sym h i; end = (ends ∙ sym (ap (λ (o : Option (Packet (List ℕ))). keptIf x o .end) yes)) i };
-        kept = is ∙ sym (ap (λ (o : Option (Packet (List ℕ))). windowFor (keptIf x o .waiting) next) yes);
+        answer = answers h (ap (λ (y : Session (List ℕ) (Unit {0})). y .end) (sym (kept-none no))) (sym (none-of (straightIn x s) (countOf (judge x s)) (ap countOf no)));
+        kept = same-held (neat .same) (neat .same ∙ ap (λ (y : Session (List ℕ) (Unit {0})). windowFor (y .waiting) next) (sym (kept-none no)));
       }
+    where
+      no : judge x s ≡ none
+      no = judge-no x s h named
+
+  -- where none applies, the packet is kept, or goes straight on
+  module _ (h : decided (takeTests x s) .0 ≡ 0) {to : ℕ} (ends : to ≡ keep x (packetIn s) .end) where
+    yes : judge x s ≡ some (packetIn s)
+    yes = judge-yes x s h
+
+    starts : straightIn x s ≡ (eqb end next && eqb (packetIn s .first) next)
+    unfolding straightIn
+    starts = ap (λ (o : Option (Packet (List ℕ))). eqb end next && startsAt next o) yes
+
+    kept-end : to ≡ keptBy x s .end
+    kept-end = ends ∙ ap (λ (y : Session (List ℕ) (Unit {0})). y .end) (sym (kept-some yes))
+
+    kept-window : windowFor (keep x (packetIn s) .waiting) next ≡ windowFor (keptBy x s .waiting) next
+    kept-window = ap (λ (y : Session (List ℕ) (Unit {0})). windowFor (y .waiting) next) (sym (kept-some yes))
+
+    -- a packet of no message leaves the window as it was
+    still : packetIn s .messages ≡ [] → w ≡ windowFor (keep x (packetIn s) .waiting) next → Admits w s next end (record { refusal = 0; end = to; direct = 0 }) w
+    still empty is =
+        record {
+          answer = answers h kept-end (sym (none-of (straightIn x s) (countOf (judge x s)) (ap countOf yes ∙ ap length empty)));
+          kept = same-held (neat .same) (is ∙ kept-window);
+        }
+
+    taken : (eqb end next && eqb (packetIn s .first) next) ≡ false → {after : List ℕ} → after ≡ windowFor (keep x (packetIn s) .waiting) next
+        → Admits w s next end (record { refusal = 0; end = to; direct = 0 }) after
+    taken apart is =
+        record {
+          answer = answers h kept-end (sym (ap (λ (b : Bool). cond b (countOf (judge x s)) 0) (starts ∙ apart)));
+          kept = is ∙ kept-window ∙ ap (λ (y : Session (List ℕ) (Unit {0})). windowFor (y .waiting) next) (sym (held-apart (starts ∙ apart)));
+        }
+
+    goes : (eqb end next && eqb (packetIn s .first) next) ≡ true → {n : ℕ} → n ≡ length (packetIn s .messages)
+        → Admits w s next end (record { refusal = 0; end = to; direct = n }) w
+    goes level many =
+        record {
+          answer = answers h kept-end (many ∙ sym (ap countOf yes) ∙ sym (ap (λ (b : Bool). cond b (countOf (judge x s)) 0) (starts ∙ level)));
+          kept = neat .same ∙ ap (λ (y : Session (List ℕ) (Unit {0})). windowFor (y .waiting) next) (sym (held-straight (starts ∙ level)));
+        }
 
   more : List Test
   more = unlessHeartbeat (header.heartbeat (headerIn s .flag)) (waitTests x s)
@@ -67,7 +170,7 @@ module _ {w : List ℕ} (s : List ℕ) {next : ℕ} (end : ℕ) (neat : Neat w n
     unfolding judgeOf
     number = ap (λ (j : Judged). j .test) told
 
-    pub by-packet : (judged .test ≡ 0 → ⊥) → {r : Admitted} → r ≡ record { refusal = judged .test; end = end } → Admits w s next end r w
+    pub by-packet : (judged .test ≡ 0 → ⊥) → {r : Admitted} → r ≡ record { refusal = judged .test; end = end; direct = 0 } → Admits w s next end r w
     by-packet named is =
         let d : decided (takeTests x s) .0 ≡ judged .test =
         ap (λ (p : ℕ × ℕ). p .0) (apart ∙ decides (packetTests s) (decided more) (λ e. named (number ∙ e))) ∙ sym number in
@@ -93,7 +196,7 @@ module _ {w : List ℕ} (s : List ℕ) {next : ℕ} (end : ℕ) (neat : Neat w n
         flag b e = ap (λ (h : Header). eqb (h .flag % 2) 1) (sym read) ∙ e
 
         -- a heartbeat
-        pub beats : head .flag % 2 ≡ 1 → {to : ℕ} {r : Admitted} → to ≡ max end (head .seq) → r ≡ record { refusal = 0; end = to } → Admits w s next end r w
+        pub beats : head .flag % 2 ≡ 1 → {to : ℕ} {r : Admitted} → to ≡ max end (head .seq) → r ≡ record { refusal = 0; end = to; direct = 0 } → Admits w s next end r w
         unfolding more packetIn keep
         beats h {to} ends is =
             let hb : header.heartbeat (headerIn s .flag) ≡ true = flag true (eq-eqb (head .flag % 2) 1 h) in
@@ -102,8 +205,9 @@ module _ {w : List ℕ} (s : List ℕ) {next : ℕ} (end : ℕ) (neat : Neat w n
             let seq : head .seq ≡ headerIn s .seq = ap (λ (h : Header). h .seq) read in
             let k : keep x (packetIn s) ≡ record { next = next; end = max end (headerIn s .seq); waiting = waitingOf w next; tables = tt } = ap (keep x) p ∙ keep-heartbeat x (headerIn s .seq) in
             subst (λ (a : Admitted). Admits w s next end a w) (sym is)
-            (taken d
+            (still d
             (ends ∙ ap (max end) seq ∙ sym (ap (λ (y : Session (List ℕ) (Unit {0})). y .end) k))
+            (ap (λ (q : Packet (List ℕ)). q .messages) p)
             (neat .same ∙ sym (ap (λ (y : Session (List ℕ) (Unit {0})). windowFor (y .waiting) next) k)))
 
         module _ (other : head .flag % 2 ≡ 1 → ⊥) where
@@ -121,7 +225,7 @@ module _ {w : List ℕ} (s : List ℕ) {next : ℕ} (end : ℕ) (neat : Neat w n
           far : (b : Bool) → leb (next + 256) (lastOf (head .seq) (head .messages)) ≡ b → nine x s .0 ≡ b
           far b e = ap (λ (h : Header). leb (next + 256) (lastOf (h .seq) (h .messages))) (sym read) ∙ e
 
-          pub by-nine : next + 256 < head .seq + head .messages → {r : Admitted} → r ≡ record { refusal = 9; end = end } → Admits w s next end r w
+          pub by-nine : next + 256 < head .seq + head .messages → {r : Admitted} → r ≡ record { refusal = 9; end = end; direct = 0 } → Admits w s next end r w
           by-nine h is =
               let n : nine x s .0 ≡ true = far true (le-leb (next + 256) (lastOf (head .seq) (head .messages)) (omega arith)) in
               let d : decided (takeTests x s) .0 ≡ 9 = ap (λ (p : ℕ × ℕ). p .0) (waits ∙ ap (λ (b : Bool). decided ((b, (9, 2)) ∷ ten x s ∷ [])) n) in
@@ -153,21 +257,46 @@ module _ {w : List ℕ} (s : List ℕ) {next : ℕ} (end : ℕ) (neat : Neat w n
                   ap (λ (p : ℕ × ℕ). p .0)
                   (waits ∙ ap (λ (c : Bool). decided ((c, (9, 2)) ∷ ten x s ∷ [])) within ∙ ap (λ (c : Bool). decided ((c, (10, ten x s .1 .1)) ∷ [])) (tenth b e))
 
-              pub by-ten : differ ≡ true → {r : Admitted} → r ≡ record { refusal = 10; end = end } → Admits w s next end r w
+              pub by-ten : differ ≡ true → {r : Admitted} → r ≡ record { refusal = 10; end = end; direct = 0 } → Admits w s next end r w
               by-ten e is = subst (λ (a : Admitted). Admits w s next end a w) (sym is) (refused 10 (tested true e) (λ z. omega arith))
 
-              pub keeps : differ ≡ false → {after : List ℕ} {to : ℕ} {r : Admitted}
-                  → after ≡ windowFor (keep (stateOf w next next) (packet (head .seq) (map (bytesAt s) (framesFrom (head .messages) 12 s))) .waiting) next
-                  → to ≡ max end (head .seq + head .messages) → r ≡ record { refusal = 0; end = to } → Admits w s next end r after
-              unfolding keep
-              keeps e {after} {to} is ends answer =
-                  let p : packetIn s ≡ packet (head .seq) (map (bytesAt s) (framesFrom (head .messages) 12 s)) =
-                  is-packet ∙ ap (λ (h : Header). packet (h .seq) (map (bytesAt s) (framesFrom (h .messages) 12 s))) (sym read) in
-                  let n : length (map (bytesAt s) (framesFrom (head .messages) 12 s)) ≡ head .messages =
-                  length-map (framesFrom (head .messages) 12 s) (bytesAt s) ∙ length-frames (head .messages) 12 s in
-                  subst (λ (a : Admitted). Admits w s next end a after) (sym answer)
-                  (taken (tested false e)
-                  (ends ∙ sym (ap (λ (q : Packet (List ℕ)). keep x q .end) p ∙ ap (λ (k : ℕ). max end (head .seq + k)) n))
-                  (is
-                  ∙ ap (λ (f : ℕ → Option (List ℕ)). windowFor f next) (same-kept (stateOf w next next) x (packet (head .seq) (map (bytesAt s) (framesFrom (head .messages) 12 s))) refl refl)
-                  ∙ sym (ap (λ (q : Packet (List ℕ)). windowFor (keep x q .waiting) next) p)))
+              module _ (e : differ ≡ false) {to : ℕ} (ends : to ≡ max end (head .seq + head .messages)) {b : Bool} (at-next : b ≡ (eqb end next && eqb (head .seq) next)) where
+                p : packetIn s ≡ packet (head .seq) (map (bytesAt s) (framesFrom (head .messages) 12 s))
+                p = is-packet ∙ ap (λ (h : Header). packet (h .seq) (map (bytesAt s) (framesFrom (h .messages) 12 s))) (sym read)
+
+                n : length (map (bytesAt s) (framesFrom (head .messages) 12 s)) ≡ head .messages
+                n = length-map (framesFrom (head .messages) 12 s) (bytesAt s) ∙ length-frames (head .messages) 12 s
+
+                end-is : to ≡ keep x (packetIn s) .end
+                unfolding keep
+                end-is = ends ∙ sym (ap (λ (q : Packet (List ℕ)). keep x q .end) p ∙ ap (λ (k : ℕ). max end (head .seq + k)) n)
+
+                level : b ≡ (eqb end next && eqb (packetIn s .first) next)
+                level = at-next ∙ sym (ap (λ (q : Packet (List ℕ)). eqb end next && eqb (q .first) next) p)
+
+                pub keeps : b ≡ false → {after : List ℕ} {r : Admitted}
+                    → after ≡ windowFor (keep (stateOf w next next) (packet (head .seq) (map (bytesAt s) (framesFrom (head .messages) 12 s))) .waiting) next
+                    → r ≡ record { refusal = 0; end = to; direct = 0 } → Admits w s next end r after
+                unfolding keep
+                keeps apart-from {after} is answer =
+                    subst (λ (a : Admitted). Admits w s next end a after) (sym answer)
+                    (taken (tested false e) end-is (sym level ∙ apart-from)
+                    (is
+                    ∙ ap (λ (f : ℕ → Option (List ℕ)). windowFor f next) (same-kept (stateOf w next next) x (packet (head .seq) (map (bytesAt s) (framesFrom (head .messages) 12 s))) refl refl)
+                    ∙ sym (ap (λ (q : Packet (List ℕ)). windowFor (keep x q .waiting) next) p)))
+
+                pub goes-on : b ≡ true → {r : Admitted} → r ≡ record { refusal = 0; end = to; direct = head .messages } → Admits w s next end r w
+                goes-on yes {r} answer =
+                    subst (λ (a : Admitted). Admits w s next end a w) (sym answer)
+                    (goes (tested false e) end-is (sym level ∙ yes) (sym n ∙ sym (ap (λ (q : Packet (List ℕ)). length (q .messages)) p)))
+
+            -- nothing is known beyond next, so nothing differs
+            pub straight-on : Known w next end → {to : ℕ} → to ≡ max end (head .seq + head .messages) → {b : Bool} → b ≡ (eqb end next && eqb (head .seq) next) → b ≡ true
+                → {r : Admitted} → r ≡ record { refusal = 0; end = to; direct = head .messages } → Admits w s next end r w
+            straight-on known ends at-next yes answer =
+                goes-on {differ = isSome (differFrom (waitingOf w next) (head .seq) (framesFrom (head .messages) 12 s) s)} refl
+                (none-differs (waitingOf w next) (none-waits known (eqb-true end next (and-left (eqb end next) (eqb (head .seq) next) (sym at-next ∙ yes)))) (head .seq) (framesFrom (head .messages) 12 s) s)
+                ends
+                at-next
+                yes
+                answer

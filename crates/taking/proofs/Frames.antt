@@ -1,19 +1,18 @@
--- Where a packet lies in the lent bytes, and what stands at a place of the window.
+-- Where a packet lies in the lent bytes.
 -- Assumes nothing.
 use mathlib.Core.Path.{_≡_, refl, ap, _∙_, sym, subst}
-use mathlib.Core.Bool.{Bool, true, false}
-use mathlib.Core.List.{List, [], _∷_, _++_, append-nil}
-use Prim.Native.Nat.{ℕ, zero, suc, _+_, _-_, _≤_, _<_}
+use mathlib.Core.Bool.{Bool, true, false, not}
+use mathlib.Core.List.{List, [], _∷_}
+use Prim.Native.Nat.{ℕ, _+_, _-_, _≤_, min}
 use native.Mathlib.Omega.{arith}
-use lib.ListN.{length, getD, set, take, drop, replicate, drop-of-length-le, length-replicate, length-set}
-use lib.Seq.{paste}
-use Rattle.wire.specs.Number.{behind, part, splice}
-use Rattle.wire.proofs.Splice.{pasted-all, pasted-more}
-use Rattle.taking.specs.Turns.{frameAt, lengthAt, packetAt, turnOf, Lies}
+use lib.ListN.{length, take, drop}
+use Rattle.wire.specs.Number.{part, splice}
+use Rattle.wire.proofs.Place.{splice-none}
+use Rattle.taking.specs.Turns.{answerIf, closing, frameAt, lengthAt, packetAt, placeAfter, placeIf, turnOf, Closes, Lies}
 use Rattle.taking.specs.declared.turning.Frame.{Frame}
 use Rattle.taking.specs.declared.turning.Turn.{Turn}
 use Rattle.waiting.proofs.Agreeing.{lent}
-use Rattle.taking.specs.Keeping.{admittedOf, keptBy, stateOf, windowFor}
+use Rattle.taking.specs.Keeping.{admittedOf, heldBy, stateOf, windowFor}
 use Rattle.taking.specs.declared.admitting.Admitted.{Admitted}
 
 module _ {single : Bool} {s : List ℕ} {at : ℕ} (lies : Lies single s at) where
@@ -37,73 +36,52 @@ module _ {single : Bool} {s : List ℕ} {at : ℕ} (lies : Lies single s at) whe
     frame-lent = lent s (f .start) (f .size) frame-stop ∙ ap (λ (g : Frame). part s (g .start) (g .size)) is
 
     pub began : (w : List ℕ) (next end left place : ℕ) {r : Admitted} → r ≡ admittedOf (stateOf w next end) (take (f .start + f .size - f .start) (drop (f .start) s))
-        → _≡_ {A = Turn} (record { left = left; at = f .start + f .size; place = place; before = next; refusal = r .refusal; end = r .end }) (turnOf (stateOf w next end) single s at left place)
-    began w next end left place {r} h =
+        → {n : ℕ} → n ≡ min (f .size) 12
+        → _≡_ {A = Turn} (record { begun = true; left = left; at = f .start + f .size; place = place; before = next; refusal = r .refusal; end = r .end; direct = r .direct; from = f .start + n }) (turnOf (stateOf w next end) single s at left place)
+    began w next end left place {r} h {n} head =
         let e : r ≡ admittedOf (stateOf w next end) (packetAt single s at) = h ∙ ap (admittedOf (stateOf w next end)) frame-lent in
-        λ i. record { left = left; at = is i .start + is i .size; place = place; before = next; refusal = e i .refusal; end = e i .end }
+        let m : n ≡ min (frameAt single s at .size) 12 = head ∙ ap (λ (g : Frame). min (g .size) 12) is in
+        λ i.
+        record {
+          begun = true;
+          left = left;
+          at = is i .start + is i .size;
+          place = place;
+          before = next;
+          refusal = e i .refusal;
+          end = e i .end;
+          direct = e i .direct;
+          from = is i .start + m i;
+        }
 
-    pub kept : (w : List ℕ) (next end : ℕ) {after : List ℕ} → after ≡ windowFor (keptBy (stateOf w next end) (take (f .start + f .size - f .start) (drop (f .start) s)) .waiting) next
-        → after ≡ windowFor (keptBy (stateOf w next end) (packetAt single s at) .waiting) next
-    kept w next end h = h ∙ ap (λ (l : List ℕ). windowFor (keptBy (stateOf w next end) l .waiting) next) frame-lent
+    pub head-stop : {n : ℕ} → n ≡ min (f .size) 12 → f .start + n ≤ length s
+    head-stop head = omega (arith, frame-stop, head)
 
--- a part by its bytes
-behind-at : (s : List ℕ) (at j n k : ℕ) → k < n → getD (behind s at j n) k 0 ≡ getD s (at + (j + k)) 0
-behind-at s at j zero k h = absurd (omega arith)
-behind-at s at j (suc n) zero h = let e : j ≡ j + 0 = omega arith in ap (λ (i : ℕ). getD s (at + i) 0) e
-behind-at s at j (suc n) (suc k) h = let e : suc j + k ≡ j + suc k = omega arith in behind-at s at (suc j) n k (omega arith) ∙ ap (λ (i : ℕ). getD s (at + i) 0) e
+    pub kept : (w : List ℕ) (next end : ℕ) {after : List ℕ} → after ≡ windowFor (heldBy (stateOf w next end) (take (f .start + f .size - f .start) (drop (f .start) s)) .waiting) next
+        → after ≡ windowFor (heldBy (stateOf w next end) (packetAt single s at) .waiting) next
+    kept w next end h = h ∙ ap (λ (l : List ℕ). windowFor (heldBy (stateOf w next end) l .waiting) next) frame-lent
 
-part-at : (s : List ℕ) (at n k : ℕ) → k < n → getD (part s at n) k 0 ≡ getD s (at + k) 0
-part-at s at zero k h = absurd (omega arith)
-part-at s at (suc n) zero h = let e : at ≡ at + 0 = omega arith in ap (λ (i : ℕ). getD s i 0) e
-part-at s at (suc n) (suc k) h = let e : 1 + k ≡ suc k = omega arith in behind-at s at 1 n k (omega arith) ∙ ap (λ (i : ℕ). getD s (at + i) 0) e
+-- an answer, where a packet is at hand
+pub place-after : (turn : Turn) → turn .begun ≡ true → turn .place + 4 ≡ placeAfter turn
+place-after turn e = sym (ap (λ (b : Bool). placeIf b (turn .place)) e)
 
-behind-long : (w : List ℕ) (at j n : ℕ) → length (behind w at j n) ≡ n
-behind-long w at j zero = refl
-behind-long w at j (suc n) = ap suc (behind-long w at (suc j) n)
+pub room-for : {turn : Turn} {next n : ℕ} → Closes turn next n → turn .begun ≡ true → turn .place + 4 ≤ n
+room-for {turn} closes e = omega (arith, closes .room, place-after turn e)
 
-pub part-long : (w : List ℕ) (at n : ℕ) → length (part w at n) ≡ n
-part-long w at zero = refl
-part-long w at (suc n) = ap suc (behind-long w at 1 n)
+pub is-true : (b : Bool) → not b ≡ false → b ≡ true
+is-true true e = refl
+is-true false e = sym e
 
--- a shorter part is the front of a longer one
-behind-front : (s : List ℕ) (at j n k : ℕ) → k ≤ n → take k (behind s at j n) ≡ behind s at j k
-behind-front s at j n zero h = refl
-behind-front s at j zero (suc k) h = absurd (omega arith)
-behind-front s at j (suc n) (suc k) h = ap (λ (l : List ℕ). getD s (at + j) 0 ∷ l) (behind-front s at (suc j) n k (omega arith))
+is-false : (b : Bool) → not b ≡ true → b ≡ false
+is-false true e = sym e
+is-false false e = refl
 
-pub part-front : (s : List ℕ) (at n k : ℕ) → k ≤ n → take k (part s at n) ≡ part s at k
-part-front s at n zero h = refl
-part-front s at zero (suc k) h = absurd (omega arith)
-part-front s at (suc n) (suc k) h = ap (λ (l : List ℕ). getD s at 0 ∷ l) (behind-front s at 1 n k (omega arith))
+module _ (turn : Turn) (next : ℕ) (answers : List ℕ) where
+  abbrev row : List ℕ
+  row = (next - turn .before) ∷ turn .refusal ∷ next ∷ turn .end ∷ []
 
--- a place copied byte by byte
-pub record Copied (w text : List ℕ) (start k : ℕ) : Type 0 where
-  pub same : text ≡ paste (replicate 128 0) 0 (part w start 128) k
-  pub most : k ≤ 128
-  pub size : length text ≡ 128
+  pub not-begun : not (turn .begun) ≡ true → answers ≡ splice answers (turn .place) (closing turn next)
+  not-begun e = sym (ap (λ (b : Bool). splice answers (turn .place) (answerIf b row)) (is-false (turn .begun) e) ∙ splice-none answers (turn .place))
 
-module _ (w : List ℕ) (start : ℕ) where
-  pub copied-none : Copied w (replicate 128 0) start 0
-  copied-none = record { same = refl; most = omega arith; size = length-replicate {A = ℕ} 128 0 }
-
-  pub copied-more : {text : List ℕ} {k : ℕ} → Copied w text start k → k < 128 → Copied w (set text k (getD w (start + k) 0)) start (k + 1)
-  copied-more {text} {k} g h =
-      let long : length (part w start 128) ≡ 128 = part-long w start 128 in
-      let nought : 0 + k ≡ k = omega arith in
-      let zeros : length {A = ℕ} (replicate 128 0) ≡ 128 = length-replicate {A = ℕ} 128 0 in
-      record {
-        same =
-            ap (set text k) (sym (part-at w start 128 k h))
-            ∙ ap (λ (j : ℕ). set text j (getD (part w start 128) k 0)) (sym nought)
-            ∙ pasted-more (replicate 128 0) 0 (part w start 128) k (g .same) (omega (arith, long, zeros)) (omega (arith, long));
-        most = omega arith;
-        size = length-set text k (getD w (start + k) 0) ∙ g .size;
-      }
-
-  pub copied-all : {text : List ℕ} {k : ℕ} → Copied w text start k → 128 ≤ k → text ≡ part w start 128
-  unfolding splice
-  copied-all {text} {k} g h =
-      let long : length (part w start 128) ≡ 128 = part-long w start 128 in
-      pasted-all (replicate 128 0) 0 (part w start 128) k (g .same) (omega (arith, long, g .most)) (omega (arith, long))
-      ∙ ap (λ (l : List ℕ). part w start 128 ++ l) (drop-of-length-le (replicate 128 0) {i = 0 + length (part w start 128)} (omega (arith, long, length-replicate {A = ℕ} 128 0)))
-      ∙ append-nil (part w start 128)
+  pub closed : turn .begun ≡ true → {after : List ℕ} → after ≡ splice answers (turn .place) row → after ≡ splice answers (turn .place) (closing turn next)
+  closed e h = h ∙ sym (ap (λ (b : Bool). splice answers (turn .place) (answerIf b row)) e)

@@ -6,5 +6,6 @@ pub mod Walks
 pub mod Keeps
 pub mod Differs
 pub mod Admits
+pub mod Ahead
 pub mod Passing
 pub mod Frames

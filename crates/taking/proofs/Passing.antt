@@ -1,13 +1,13 @@
 -- What a packet that is taken carries: whole messages, and no number above 4,294,967,295.
 -- Assumes nothing.
 use mathlib.Core.Path.{_≡_, refl, ap, _∙_, sym, subst}
-use mathlib.Core.Bool.{Bool, true, false, cond}
+use mathlib.Core.Bool.{Bool, true, false, cond, not}
 use mathlib.Core.List.{List, [], _∷_, _++_, map}
 use mathlib.Core.Option.{Option, none, some, Option·none-ne-some}
 use Prim.Native.Nat.{ℕ, zero, suc, _+_, _-_, _≤_, _<_}
 use native.Mathlib.Omega.{arith}
 use borrow.Author.Tests.{ltb-false}
-use lib.Dec.{leb, ltb}
+use lib.Dec.{eqb, leb, ltb}
 use lib.ListN.{length, getElem?, length-map}
 use Rattle.wire.specs.Number.{Bytes}
 use Rattle.wire.proofs.Place.{getD-small}
@@ -88,3 +88,20 @@ module _ {Table : Type 0} (x : Session (List ℕ) Table) (s : List ℕ) (bytes :
 
   pub passes : {p : Packet (List ℕ)} → judge x s ≡ some p → Passes p
   passes {p} h = let j = judged x s p h in subst Passes (j .1) (by-flag (j .0) (header.heartbeat (headerIn s .flag)) refl)
+
+  -- one that is no heartbeat: its header is there, and its messages are whole, one behind the other
+  pub record Walks : Type 0 where
+    pub long : 12 ≤ length s
+    pub walk : walkFrom (headerIn s .messages) 12 s ≡ walked.Whole
+
+  pub walks : decided (takeTests x s) .0 ≡ 0 → header.heartbeat (headerIn s .flag) ≡ false → Walks
+  unfolding packetTests bodyTests headerTests
+  walks zero-tests e =
+      let walk = walkFrom (headerIn s .messages) 12 s in
+      let both = second (headerTests s) (unlessHeartbeat (header.heartbeat (headerIn s .flag)) (bodyTests walk (headerIn s .seq) (headerIn s .messages))) (header-numbered s) (first-part zero-tests) in
+      let body : decided (bodyTests walk (headerIn s .seq) (headerIn s .messages)) .0 ≡ 0 =
+      subst (λ (b : Bool). decided (unlessHeartbeat b (bodyTests walk (headerIn s .seq) (headerIn s .messages))) .0 ≡ 0) e (both .1) in
+      record {
+        long = ltb-false (length s) 12 (first-not (ltb (length s) 12) 1 0 ((ltb 1472 (length s), (2, 0)) ∷ (not (eqb (headerIn s .size) (length s)), (3, 0)) ∷ header.flagsOf (headerIn s)) (λ z. omega arith) (both .0));
+        walk = unbroken walk (first-not (isBroken walk) 7 (faultOf walk) ((ltb 4294967295 (lastOf (headerIn s .seq) (headerIn s .messages)), (8, 2)) ∷ []) (λ z. omega arith) body);
+      }

@@ -1,9 +1,11 @@
 -- Document 01, "Taking a packet", on the window alone: what waits in it, and what it holds once a packet is kept.
 -- Assumes nothing.
 use mathlib.Core.Path.{_≡_}
+use mathlib.Core.Bool.{Bool, true, false, cond, _&&_}
 use mathlib.Core.List.{List}
 use mathlib.Core.Option.{Option, none, some}
 use Prim.Native.Nat.{ℕ, _+_, _≤_, _<_}
+use lib.Dec.{eqb}
 use lib.ListN.{length}
 use Rattle.wire.specs.Number.{part}
 use Rattle.merge.specs.Session.{Packet, Session, keep}
@@ -35,6 +37,10 @@ pub record Neat (window : List ℕ) (next : ℕ) : Type 0 where
   pub size : length window ≡ 32768
   pub top : next ≤ 4294967296
 
+-- what waits lies below end
+pub record Known (window : List ℕ) (next end : ℕ) : Type 0 where
+  pub below : (k : ℕ) (m : List ℕ) → waitingOf window next k ≡ some m → k < end
+
 -- a message of a packet: where it lies, and that it is whole
 pub record Framed (s : List ℕ) (at size : ℕ) : Type 0 where
   pub within : at + size ≤ length s
@@ -47,6 +53,14 @@ pub record Passed (s : List ℕ) (next first messages : ℕ) : Type 0 where
   pub long : 12 ≤ length s
   pub near : first + messages ≤ next + 256
 
+abbrev pub startsAt : ℕ → Option (Packet (List ℕ)) → Bool
+startsAt next none = false
+startsAt next (some p) = eqb (p .first) next
+
+abbrev pub countOf : Option (Packet (List ℕ)) → ℕ
+countOf none = 0
+countOf (some p) = length (p .messages)
+
 module _ {Table : Type 0} where
   -- the session with a packet kept, if it is one that is taken
   unfoldable pub keptIf : Session (List ℕ) Table → Option (Packet (List ℕ)) → Session (List ℕ) Table
@@ -56,6 +70,20 @@ module _ {Table : Type 0} where
   abbrev pub keptBy : Session (List ℕ) Table → List ℕ → Session (List ℕ) Table
   keptBy x s = keptIf x (judge x s)
 
-  -- the answer: the test that refuses the packet, 0 where none does, and end behind it
+  -- where nothing is known beyond next and the packet starts there, its messages are applied straight from it, and none is kept
+  unfoldable pub straightIn : Session (List ℕ) Table → List ℕ → Bool
+  straightIn x s = eqb (x .end) (x .next) && startsAt (x .next) (judge x s)
+
+  -- what the window holds then
+  unfoldable pub heldBy : Session (List ℕ) Table → List ℕ → Session (List ℕ) Table
+  heldBy x s = cond (straightIn x s) x (keptBy x s)
+
+  -- the answer: the test that refuses the packet, 0 where none does, end behind it, and how many messages are applied straight
+  -- from it
   unfoldable pub admittedOf : Session (List ℕ) Table → List ℕ → Admitted
-  admittedOf x s = record { refusal = decided (takeTests x s) .0; end = keptBy x s .end }
+  admittedOf x s =
+      record {
+        refusal = decided (takeTests x s) .0;
+        end = keptBy x s .end;
+        direct = cond (straightIn x s) (countOf (judge x s)) 0;
+      }

@@ -2,7 +2,7 @@
 -- Assumes nothing.
 use mathlib.Core.Bool.{Bool, true, false}
 use mathlib.Core.List.{List, [], _∷_}
-use Prim.Native.Nat.{ℕ, _+_, _-_, _≤_}
+use Prim.Native.Nat.{ℕ, _+_, _-_, _≤_, min}
 use lib.ListN.{length}
 use Rattle.wire.specs.Number.{num, part}
 use Rattle.merge.specs.Session as merge
@@ -35,25 +35,55 @@ module _ {Table : Type 0} where
   abbrev pub turnOf : merge.Session (List ℕ) Table → Bool → List ℕ → ℕ → ℕ → ℕ → Turn
   turnOf x single s at left place =
       record {
+        begun = true;
         left = left;
         at = behind single s at;
         place = place;
         before = x .next;
         refusal = admittedOf x (packetAt single s at) .refusal;
         end = admittedOf x (packetAt single s at) .end;
+        direct = admittedOf x (packetAt single s at) .direct;
+        from = frameAt single s at .start + min (frameAt single s at .size) 12;
       }
 
--- its answer, with next as it is then
+-- before the first packet
+abbrev pub atStart : ℕ → ℕ → ℕ → Turn
+atStart next end count =
+    record {
+      begun = false;
+      left = count;
+      at = 0;
+      place = 0;
+      before = next;
+      refusal = 0;
+      end = end;
+      direct = 0;
+      from = 0;
+    }
+
+-- its answer, with next as it is then; before the first packet there is none
+abbrev pub answerIf : Bool → List ℕ → List ℕ
+answerIf true row = row
+answerIf false row = []
+
 abbrev pub closing : Turn → ℕ → List ℕ
-closing turn next = (next - turn .before) ∷ turn .refusal ∷ next ∷ turn .end ∷ []
+closing turn next = answerIf (turn .begun) ((next - turn .before) ∷ turn .refusal ∷ next ∷ turn .end ∷ [])
+
+-- where the next answer goes
+abbrev pub placeIf : Bool → ℕ → ℕ
+placeIf true place = place + 4
+placeIf false place = place
+
+abbrev pub placeAfter : Turn → ℕ
+placeAfter turn = placeIf (turn .begun) (turn .place)
 
 -- there is room for it
 pub record Closes (turn : Turn) (next n : ℕ) : Type 0 where
   pub low : turn .before ≤ next
-  pub room : turn .place + 4 ≤ n
+  pub room : placeAfter turn ≤ n
 
 -- what the next packet's turn asks for
 pub record Follows (single : Bool) (s : List ℕ) (turn : Turn) : Type 0 where
   pub left : 1 ≤ turn .left
-  pub place : turn .place + 4 ≤ 18446744073709551615
+  pub place : placeAfter turn ≤ 18446744073709551615
   pub lies : Lies single s (turn .at)

@@ -1,24 +1,26 @@
 // Parts: from one packet of a burst to the next.
 use crate::admitting::admit;
 ghost use mathlib.Core.Path.{_≡_};
-ghost use Prim.Native.Nat.{_+_, _-_, _<_};
+ghost use Prim.Native.Nat.{_-_, _≤_, min};
 ghost use lib.ListN.{length};
-ghost use Rattle.wire.specs.Number.{part, splice};
+ghost use Rattle.wire.specs.Number.{splice};
 ghost use Rattle.message.specs.Table.{payloadTable};
-ghost use Rattle.waiting.specs.Window.{startOf};
-ghost use Rattle.taking.specs.Keeping.{stateOf, windowFor, keptBy, Neat};
-ghost use Rattle.taking.specs.Turns.{frameAt, packetAt, turnOf, closing, Lies, Closes, Follows};
+ghost use Rattle.taking.specs.Keeping.{stateOf, windowFor, heldBy, Known, Neat};
+ghost use Rattle.taking.specs.Turns.{frameAt, packetAt, turnOf, atStart, closing, placeAfter, Lies, Closes, Follows};
 
-// Where a burst is: how many packets have no answer yet, the one at hand among them; where the next
-// one's bytes begin; where the answer at hand goes; and of the packet at hand, next before it, its
-// refusal and end behind it.
+// Where a burst is: whether a packet is at hand; how many follow; where the next one's bytes begin;
+// where the answer at hand goes; and of the packet at hand, next before it, its refusal, end behind it,
+// how many of its messages are applied straight from it and where they begin.
 pub struct Turn {
+    pub begun: bool,
     pub left: usize,
     pub at: usize,
     pub place: usize,
     pub before: u64,
     pub refusal: u8,
     pub end: u64,
+    pub direct: usize,
+    pub from: usize,
 }
 
 pub struct Frame {
@@ -42,8 +44,32 @@ fn frame_of(s: &[u8], single: bool, at: usize) -> Frame
     }
 }
 
+// Before the first packet.
+pub fn start(next: u64, end: u64, count: usize) -> Turn
+    ensures { λ r. ⌜ r ≡ atStart next end count ⌝ }
+{
+    Turn {
+        begun: false,
+        left: count,
+        at: 0,
+        place: 0,
+        before: next,
+        refusal: 0,
+        end,
+        direct: 0,
+        from: 0,
+    }
+}
+
+// A packet's header, or as much of it as there is.
+fn header(size: usize) -> usize
+    ensures { λ r. ⌜ r ≡ min size 12 ⌝ }
+{
+    if size < 12 { size } else { 12 }
+}
+
 // The packet at a place, judged and kept.
-pub fn begin(
+fn begin(
     window: &mut [u8; 32768],
     s: &[u8],
     single: bool,
@@ -57,20 +83,37 @@ pub fn begin(
     requires { ⌜ Neat (now window) next ⌝ }
     requires { ⌜ Lies single (now s) at ⌝ }
     requires { ⌜ now sizes ≡ payloadTable ⌝ }
+    requires { ⌜ Known (now window) next end ⌝ }
     ensures turn { λ r. ⌜ r ≡ turnOf (stateOf (now (window .entry)) next end) single (now (s .entry)) at left place ⌝ }
-    ensures kept { λ r. ⌜ now (window .exit) ≡ windowFor (keptBy (stateOf (now (window .entry)) next end) (packetAt single (now (s .entry)) at) .waiting) next ⌝ }
+    ensures kept { λ r. ⌜ now (window .exit) ≡ windowFor (heldBy (stateOf (now (window .entry)) next end) (packetAt single (now (s .entry)) at) .waiting) next ⌝ }
 {
     let frame = frame_of(s, single, at);
     let start = frame.start;
     let stop = start + frame.size;
+    let from = start + header(frame.size);
     let admitted = admit(window, next, end, &s[start..stop], sizes);
     Turn {
+        begun: true,
         left,
         at: stop,
         place,
         before: next,
         refusal: admitted.refusal,
         end: admitted.end,
+        direct: admitted.direct,
+        from,
+    }
+}
+
+// Where the next answer goes.
+fn after(turn: Turn) -> usize
+    requires { ⌜ placeAfter turn ≤ 18446744073709551615 ⌝ }
+    ensures { λ r. ⌜ r ≡ placeAfter turn ⌝ }
+{
+    if turn.begun {
+        turn.place + 4
+    } else {
+        turn.place
     }
 }
 
@@ -86,11 +129,12 @@ pub fn follow(
     requires { ⌜ Neat (now window) next ⌝ }
     requires { ⌜ Follows single (now s) turn ⌝ }
     requires { ⌜ now sizes ≡ payloadTable ⌝ }
-    ensures turn { λ r. ⌜ r ≡ turnOf (stateOf (now (window .entry)) next (turn .end)) single (now (s .entry)) (turn .at) (turn .left - 1) (turn .place + 4) ⌝ }
-    ensures kept { λ r. ⌜ now (window .exit) ≡ windowFor (keptBy (stateOf (now (window .entry)) next (turn .end)) (packetAt single (now (s .entry)) (turn .at)) .waiting) next ⌝ }
+    requires { ⌜ Known (now window) next (turn .end) ⌝ }
+    ensures turn { λ r. ⌜ r ≡ turnOf (stateOf (now (window .entry)) next (turn .end)) single (now (s .entry)) (turn .at) (turn .left - 1) (placeAfter turn) ⌝ }
+    ensures kept { λ r. ⌜ now (window .exit) ≡ windowFor (heldBy (stateOf (now (window .entry)) next (turn .end)) (packetAt single (now (s .entry)) (turn .at)) .waiting) next ⌝ }
 {
     let left = turn.left - 1;
-    let place = turn.place + 4;
+    let place = after(turn);
     begin(
         window,
         s,
@@ -109,6 +153,9 @@ pub fn close(answers: &mut [u64], turn: Turn, next: u64)
     requires { ⌜ Closes turn next (length (now answers)) ⌝ }
     ensures { λ _. ⌜ now (answers .exit) ≡ splice (now (answers .entry)) (turn .place) (closing turn next) ⌝ }
 {
+    if !turn.begun {
+        return;
+    }
     let place = turn.place;
     let applied = next - turn.before;
     let refusal = turn.refusal as u64;
@@ -117,19 +164,4 @@ pub fn close(answers: &mut [u64], turn: Turn, next: u64)
     answers[place + 1] = refusal;
     answers[place + 2] = next;
     answers[place + 3] = end;
-}
-
-// What stands at a place: its message, and zeros behind.
-pub fn text_at(window: &[u8; 32768], place: usize) -> [u8; 128]
-    requires { ⌜ place < 256 ⌝ }
-    ensures { λ r. ⌜ r ≡ part (now (window .entry)) (startOf place) 128 ⌝ }
-{
-    let start = place * 128;
-    let mut text = [0u8; 128];
-    let mut k: usize = 0;
-    while k < 128 {
-        text[k] = window[start + k];
-        k += 1;
-    }
-    text
 }

@@ -2,5 +2,6 @@
 pub mod Agreeing
 pub mod Firsts
 pub mod Held
+pub mod Parts
 pub mod Requests
 pub mod Splits

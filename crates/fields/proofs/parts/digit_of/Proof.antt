@@ -19,7 +19,9 @@ cast-result c =
     )
 
 returns : tie.Need-returns
-returns c = digit-entry (c .before .args .digits .now) (c .before .args .c) (c .before .pre) (search needs)
+returns c =
+    let is = digit-entry (c .before .args .digits .now) (c .before .args .c) (c .before .pre) (search needs) in
+    (is, omega (arith, digit-most (c .before .args .c)))
 
 pub digit-of-spec : {M : Type 1} → statement M
 digit-of-spec = tie.close (tie.spec element-copy-out-result cast-result returns)

@@ -1,6 +1,8 @@
 -- `replay::replay_burst` meets its contract: the session keeps its rule, so its tables have their sizes.
 -- Assumes nothing.
+use mathlib.Core.Path.{sym, subst}
 use borrow.Author.Needs.{needs}
+use Rattle.book.specs.Rule.{Kept}
 use Rattle.session.proofs.Calls.{book-kept}
 use Rattle.replay.proofs.whole.replay_burst.Statement.{statement}
 use Rattle.replay.proofs.whole.replay_burst.Tie as tie
@@ -9,6 +11,7 @@ pub replay-burst-spec : {M : Type 1} → statement M
 replay-burst-spec =
     tie.close
     (tie.spec
+    (λ c κs. search needs)
     (λ c κs. search needs)
     (λ c. search needs)
     (λ c. search needs)
@@ -20,9 +23,9 @@ replay-burst-spec =
     (λ c. search needs)
     (λ c. search needs)
     (λ c. search needs)
-    (λ c κs. book-kept (c .before .before .before .before .before .before .before .run .ensures .0))
+    (λ c κs. subst Kept (sym (c .before .before .before .book-of .ensures)) (book-kept (c .before .before .before .before .before .before .before .run .ensures .0)))
     (λ c. search needs)
-    (λ c κs. book-kept (c .before .before .before .before .before .before .before .before .run .ensures .0))
+    (λ c κs. subst Kept (sym (c .before .before .before .before .book-of .ensures)) (book-kept (c .before .before .before .before .before .before .before .before .run .ensures .0)))
     (λ c. search needs)
     (λ c. search needs)
     (λ c. search needs))

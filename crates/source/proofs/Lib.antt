@@ -1,0 +1,3 @@
+-- Laws of `source`'s definitions.
+pub mod Choices
+pub mod Copying
