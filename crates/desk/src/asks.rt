@@ -61,13 +61,10 @@ fn order_of(answer: OrderReply, out: &mut [u8]) -> usize
     match reply {
         Reply::Refused(number) => show::refused(out, number),
         Reply::Known => {
+            let front = [order.id, order.side as u64, order.shares as u64];
             let a = output::put(out, 0, b"order");
-            let b = show::number(out, a, order.id);
-            let c = show::byte(out, b, order.side);
-            let d = show::small(out, c, order.shares);
-            let e = show::bytes(out, d, &symbol);
-            let f = show::number(out, e, order.price);
-            rest_of(out, f, firm, order.unsolicited)
+            let b = show::among(out, a, &front, &symbol, &[order.price]);
+            rest_of(out, b, firm, order.unsolicited)
         }
     }
 }
@@ -105,10 +102,8 @@ fn best_of(answer: BestReply, out: &mut [u8]) -> usize
         Reply::Refused(number) => show::refused(out, number),
         Reply::Known => {
             let a = output::put(out, 0, b"best");
-            let b = show::number(out, a, level.price);
-            let c = show::number(out, b, level.shares);
-            let d = show::number(out, c, level.orders);
-            show::end(out, d)
+            let b = show::numbers(out, a, &[level.price, level.shares, level.orders]);
+            show::end(out, b)
         }
     }
 }
@@ -133,14 +128,17 @@ fn inside_of(answer: InsideReply, out: &mut [u8]) -> usize
     match reply {
         Reply::Refused(number) => show::refused(out, number),
         Reply::Known => {
+            let values = [
+                inside.time as u64,
+                inside.ask,
+                inside.askvolume as u64,
+                inside.bid,
+                inside.bidvolume as u64,
+                inside.unsolicited as u64,
+            ];
             let a = output::put(out, 0, b"inside");
-            let b = show::small(out, a, inside.time);
-            let c = show::number(out, b, inside.ask);
-            let d = show::small(out, c, inside.askvolume);
-            let e = show::number(out, d, inside.bid);
-            let f = show::small(out, e, inside.bidvolume);
-            let g = show::byte(out, f, inside.unsolicited);
-            show::end(out, g)
+            let b = show::numbers(out, a, &values);
+            show::end(out, b)
         }
     }
 }

@@ -63,13 +63,16 @@ fn header_in(lent: &[u8], out: &mut [u8]) -> usize
     match packet::read_header(lent) {
         HeaderAnswer::Refused(number) => show::refused(out, number),
         HeaderAnswer::Fields(header) => {
+            let values = [
+                header.size as u64,
+                header.seq as u64,
+                header.flag as u64,
+                header.messages as u64,
+                header.milli as u64,
+            ];
             let a = output::put(out, 0, b"header");
-            let b = show::short(out, a, header.size);
-            let c = show::small(out, b, header.seq);
-            let d = show::byte(out, c, header.flag);
-            let e = show::byte(out, d, header.messages);
-            let f = show::small(out, e, header.milli);
-            show::end(out, f)
+            let b = show::numbers(out, a, &values);
+            show::end(out, b)
         }
     }
 }

@@ -15,18 +15,6 @@ pub fn number(out: &mut [u8], at: usize, n: u64) -> usize
     number::put(out, end, n)
 }
 
-pub fn small(out: &mut [u8], at: usize, n: u32) -> usize
-    ensures { λ r. ⌜ r ≤ length (now (out .exit)) ⌝ }
-{
-    number(out, at, n as u64)
-}
-
-pub fn short(out: &mut [u8], at: usize, n: u16) -> usize
-    ensures { λ r. ⌜ r ≤ length (now (out .exit)) ⌝ }
-{
-    number(out, at, n as u64)
-}
-
 pub fn byte(out: &mut [u8], at: usize, n: u8) -> usize
     ensures { λ r. ⌜ r ≤ length (now (out .exit)) ⌝ }
 {
@@ -73,18 +61,26 @@ pub fn refused(out: &mut [u8], number: u8) -> usize
     end(out, at)
 }
 
-fn id_of(out: &mut [u8], at: usize, m: Message) -> usize
+// Numbers, one behind the other.
+pub fn numbers(out: &mut [u8], at: usize, values: &[u64]) -> usize
     ensures { λ r. ⌜ r ≤ length (now (out .exit)) ⌝ }
 {
-    let id = m.id;
-    bytes(out, at, &id)
+    let mut end = output::put(out, at, b"");
+    let mut k = 0;
+    while k < values.len() {
+        end = number(out, end, values[k]);
+        k += 1;
+    }
+    end
 }
 
-fn symbol_of(out: &mut [u8], at: usize, m: Message) -> usize
+// An id, a symbol or a firm between numbers.
+pub fn among(out: &mut [u8], at: usize, front: &[u64], text: &[u8], back: &[u64]) -> usize
     ensures { λ r. ⌜ r ≤ length (now (out .exit)) ⌝ }
 {
-    let symbol = m.symbol;
-    bytes(out, at, &symbol)
+    let a = numbers(out, at, front);
+    let b = bytes(out, a, text);
+    numbers(out, b, back)
 }
 
 // The type and each field, in the order of the layout.
@@ -94,16 +90,24 @@ pub fn fields(out: &mut [u8], at: usize, m: Message) -> usize
     let body = m.body;
     match body {
         Body::Security { .. } => security(out, at, m),
-        Body::SpinStart { .. } => reference(out, at, m),
-        Body::SpinEnd { .. } => reference(out, at, m),
-        Body::TradingSession { .. } => reference(out, at, m),
         Body::Add { .. } => add(out, at, m),
+        Body::Execution { .. } => execution(out, at, m),
+        Body::Other(kind) => byte(out, at, kind),
+        _ => shorter(out, at, m),
+    }
+}
+
+// The types with fewer fields, apart: a match of fewer arms is proved sooner.
+fn shorter(out: &mut [u8], at: usize, m: Message) -> usize
+    ensures { λ r. ⌜ r ≤ length (now (out .exit)) ⌝ }
+{
+    let body = m.body;
+    match body {
         Body::Update { .. } => order(out, at, m),
         Body::Delete { .. } => order(out, at, m),
-        Body::Execution { .. } => execution(out, at, m),
         Body::Top { .. } => top(out, at, m),
         Body::Trade { .. } => trade(out, at, m),
-        Body::Other(kind) => byte(out, at, kind),
+        _ => reference(out, at, m),
     }
 }
 
@@ -124,22 +128,18 @@ fn security(out: &mut [u8], at: usize, m: Message) -> usize
     else {
         return end(out, at);
     };
-    let a = byte(out, at, 9);
-    let b = symbol_of(out, a, m);
-    let c = number(out, b, updated);
-    let d = byte(out, c, action);
-    let e = byte(out, d, class);
-    let f = small(out, e, listed);
-    listing(out, f, flags, tier, reporting, status)
-}
-
-fn listing(out: &mut [u8], at: usize, flags: u16, tier: u8, reporting: u8, status: u8) -> usize
-    ensures { λ r. ⌜ r ≤ length (now (out .exit)) ⌝ }
-{
-    let a = short(out, at, flags);
-    let b = byte(out, a, tier);
-    let c = byte(out, b, reporting);
-    byte(out, c, status)
+    let symbol = m.symbol;
+    let back = [
+        updated,
+        action as u64,
+        class as u64,
+        listed as u64,
+        flags as u64,
+        tier as u64,
+        reporting as u64,
+        status as u64,
+    ];
+    among(out, at, &[9], &symbol, &back)
 }
 
 fn reference(out: &mut [u8], at: usize, m: Message) -> usize
@@ -148,28 +148,15 @@ fn reference(out: &mut [u8], at: usize, m: Message) -> usize
     let body = m.body;
     match body {
         Body::SpinStart { spin, time, last } => {
-            let a = byte(out, at, 11);
-            let b = byte(out, a, spin);
-            let c = number(out, b, time);
-            small(out, c, last)
+            numbers(out, at, &[11, spin as u64, time, last as u64])
         }
         Body::SpinEnd {
             spin,
             count,
             time,
             last,
-        } => {
-            let a = byte(out, at, 12);
-            let b = byte(out, a, spin);
-            let c = small(out, b, count);
-            let d = number(out, c, time);
-            small(out, d, last)
-        }
-        Body::TradingSession { time, session } => {
-            let a = byte(out, at, 20);
-            let b = number(out, a, time);
-            byte(out, b, session)
-        }
+        } => numbers(out, at, &[12, spin as u64, count as u64, time, last as u64]),
+        Body::TradingSession { time, session } => numbers(out, at, &[20, time, session as u64]),
         _ => end(out, at),
     }
 }
@@ -189,53 +176,47 @@ fn add(out: &mut [u8], at: usize, m: Message) -> usize
     else {
         return end(out, at);
     };
-    let a = byte(out, at, 21);
-    let b = small(out, a, time);
-    let c = id_of(out, b, m);
-    let d = byte(out, c, side);
-    let e = small(out, d, quantity);
-    let f = symbol_of(out, e, m);
+    let id = m.id;
+    let symbol = m.symbol;
     let firm = m.firm;
-    offer(out, f, price, firm, unsolicited, flags)
-}
-
-fn offer(out: &mut [u8], at: usize, price: u64, firm: [u8; 4], unsolicited: u8, flags: u16) -> usize
-    ensures { λ r. ⌜ r ≤ length (now (out .exit)) ⌝ }
-{
-    let a = number(out, at, price);
-    let b = bytes(out, a, &firm);
-    let c = byte(out, b, unsolicited);
-    short(out, c, flags)
+    let a = among(
+        out,
+        at,
+        &[21, time as u64],
+        &id,
+        &[side as u64, quantity as u64],
+    );
+    let b = bytes(out, a, &symbol);
+    among(out, b, &[price], &firm, &[unsolicited as u64, flags as u64])
 }
 
 fn order(out: &mut [u8], at: usize, m: Message) -> usize
     ensures { λ r. ⌜ r ≤ length (now (out .exit)) ⌝ }
 {
     let body = m.body;
+    let id = m.id;
     match body {
         Body::Update {
             time,
             quantity,
             price,
             flags,
-        } => {
-            let a = byte(out, at, 22);
-            let b = small(out, a, time);
-            let c = id_of(out, b, m);
-            let d = small(out, c, quantity);
-            let e = number(out, d, price);
-            short(out, e, flags)
-        }
+        } => among(
+            out,
+            at,
+            &[22, time as u64],
+            &id,
+            &[quantity as u64, price, flags as u64],
+        ),
         Body::Delete { time } => {
-            let a = byte(out, at, 23);
-            let b = small(out, a, time);
-            id_of(out, b, m)
+            let a = numbers(out, at, &[23, time as u64]);
+            bytes(out, a, &id)
         }
         _ => end(out, at),
     }
 }
 
-fn kind_of(terms: Terms) -> u8 {
+fn kind_of(terms: Terms) -> u64 {
     match terms {
         Terms::Published => 24,
         Terms::Own(_) => 25,
@@ -265,13 +246,16 @@ fn execution(out: &mut [u8], at: usize, m: Message) -> usize
     else {
         return end(out, at);
     };
-    let a = byte(out, at, kind_of(terms));
-    let b = small(out, a, time);
-    let c = id_of(out, b, m);
-    let d = small(out, c, executed);
-    let e = small(out, d, remaining);
-    let f = number(out, e, traded);
-    price_of(out, f, terms)
+    let id = m.id;
+    let front = [kind_of(terms), time as u64];
+    let a = among(
+        out,
+        at,
+        &front,
+        &id,
+        &[executed as u64, remaining as u64, traded],
+    );
+    price_of(out, a, terms)
 }
 
 fn top(out: &mut [u8], at: usize, m: Message) -> usize
@@ -289,14 +273,15 @@ fn top(out: &mut [u8], at: usize, m: Message) -> usize
     else {
         return end(out, at);
     };
-    let a = byte(out, at, 26);
-    let b = small(out, a, time);
-    let c = symbol_of(out, b, m);
-    let d = number(out, c, ask);
-    let e = small(out, d, askvolume);
-    let f = number(out, e, bid);
-    let g = small(out, f, bidvolume);
-    byte(out, g, unsolicited)
+    let symbol = m.symbol;
+    let back = [
+        ask,
+        askvolume as u64,
+        bid,
+        bidvolume as u64,
+        unsolicited as u64,
+    ];
+    among(out, at, &[26, time as u64], &symbol, &back)
 }
 
 fn trade(out: &mut [u8], at: usize, m: Message) -> usize
@@ -314,12 +299,7 @@ fn trade(out: &mut [u8], at: usize, m: Message) -> usize
     else {
         return end(out, at);
     };
-    let a = byte(out, at, 27);
-    let b = small(out, a, time);
-    let c = byte(out, b, side);
-    let d = small(out, c, quantity);
-    let e = symbol_of(out, d, m);
-    let f = number(out, e, price);
-    let g = number(out, f, execution);
-    number(out, g, reserved)
+    let symbol = m.symbol;
+    let front = [27, time as u64, side as u64, quantity as u64];
+    among(out, at, &front, &symbol, &[price, execution, reserved])
 }

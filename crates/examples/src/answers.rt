@@ -15,11 +15,11 @@ ghost use Rattle.session.specs.Meaning.{Ruled};
 // The answer to a packet, then next and end.
 pub fn taken(label: &[u8], taken: Taken) {
     show::put(label);
-    show::put(b": ");
+    show::colon();
     let said = taken.answer;
     answer(said);
     numbers(taken.session);
-    show::put(b"\n");
+    show::end();
 }
 
 fn answer(answer: Answer) {
@@ -47,10 +47,10 @@ pub fn report(label: &[u8], session: Session)
     requires { ⌜ Ruled session ⌝ }
 {
     show::put(label);
-    show::put(b": ");
+    show::colon();
     orders(session);
     inside(asking::inside(session, made::symbol_of(0)));
-    show::put(b"\n");
+    show::end();
 }
 
 fn orders(session: Session)
@@ -119,5 +119,5 @@ pub fn code(label: &[u8], session: Session) {
     show::put(label);
     show::put(b": code");
     show::byte(asking::code(session));
-    show::put(b"\n");
+    show::end();
 }

@@ -8,6 +8,8 @@ use crate::made::packet_of;
 use crate::made::sent;
 use crate::made::top;
 use crate::made::update;
+use crate::rows;
+use crate::rows::Table;
 use message::Message;
 use session::asking;
 use session::packets;
@@ -117,11 +119,13 @@ fn broken() {
     );
 }
 
-// An order of 300 with an execution.
-fn executed(label: &[u8], shares: u32, remaining: u32) {
+// An order of 300 with an execution: the shares executed, and those that remain.
+pub fn executed(line: &[u8]) {
+    let shares = (rows::number(line, 0) % 4294967296) as u32;
+    let remaining = (rows::number(line, 1) % 4294967296) as u32;
     let first = add(0, b'B', 300, 1250000);
     case(
-        label,
+        rows::label(line),
         first,
         execution(0, shares, remaining),
         none(),
@@ -130,11 +134,14 @@ fn executed(label: &[u8], shares: u32, remaining: u32) {
 }
 
 fn executions() {
-    executed(b"P9 order of 300, executed 500", 500, 0);
-    executed(b"P10 order of 300, executed 300, remaining 0", 300, 0);
-    executed(b"P11 order of 300, executed 100, remaining 199", 100, 199);
-    executed(b"order of 300, executed 100, remaining 200", 100, 200);
-    executed(b"6 before 7: executed 500, remaining 500", 500, 500);
+    rows::run(
+        Table::Executions,
+        b"P9 order of 300, executed 500 | 500 0\n\
+        P10 order of 300, executed 300, remaining 0 | 300 0\n\
+        P11 order of 300, executed 100, remaining 199 | 100 199\n\
+        order of 300, executed 100, remaining 200 | 100 200\n\
+        6 before 7: executed 500, remaining 500 | 500 500\n",
+    );
 }
 
 fn executions_in_turn() {

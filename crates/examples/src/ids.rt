@@ -1,31 +1,43 @@
 // Order ids: the venue's own example, and P1 to P4.
+use crate::rows;
+use crate::rows::Table;
 use crate::show;
 use fields::id::IdValue;
 
-fn case(id: [u8; 14]) {
-    show::put(b"id");
-    show::quoted(&id);
-    show::put(b": ");
-    match fields::id::value(id) {
+pub fn case(line: &[u8]) {
+    if line.len() == 14 {
+        let id = wire::text14_at(line, 0);
+        show::put(b"id");
+        show::quoted(line);
+        show::colon();
+        answer(fields::id::value(id));
+    }
+}
+
+fn answer(answer: IdValue) {
+    match answer {
         IdValue::Value(value) => {
             show::put(b"value");
             show::number(value);
-            show::put(b"\n");
+            show::end();
         }
         IdValue::Refused(number) => show::refused(number),
     }
 }
 
 pub fn run() {
-    case(*b"7A400CY528L9SN");
-    case(*b"000000000010ZZ");
-    case(*b"ZZZZZZZZZZZZ00");
-    case(*b"7A400Ca528L9SN");
-    case(*b"7A400CY528L9aa");
-    case(*b"00000000000000");
-    case(*b"0000000000/000");
-    case(*b"00000000000:00");
-    case(*b"@0000000000000");
-    case(*b"[0000000000000");
-    case(*b"000000000000~ ");
+    rows::run(
+        Table::Ids,
+        b"7A400CY528L9SN\n\
+        000000000010ZZ\n\
+        ZZZZZZZZZZZZ00\n\
+        7A400Ca528L9SN\n\
+        7A400CY528L9aa\n\
+        00000000000000\n\
+        0000000000/000\n\
+        00000000000:00\n\
+        @0000000000000\n\
+        [0000000000000\n\
+        000000000000~ \n",
+    );
 }

@@ -6,6 +6,8 @@ mod headers;
 mod ids;
 mod made;
 mod messages;
+mod rows;
+mod samples;
 mod sessions;
 mod show;
 mod sweeps;

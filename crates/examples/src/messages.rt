@@ -1,20 +1,30 @@
 // Messages: each type, each field rule, and the size at both ends.
+use crate::rows;
+use crate::rows::Table;
+use crate::rows::number;
+use crate::samples;
 use crate::show;
-use crate::writes;
 
-// A good message with MessageSize set to size, a number of `width` bytes put at a place, and
-// `length` bytes of it lent, zeros behind its end.
-fn case(label: &[u8], base: &[u8], size: u16, length: usize, at: usize, width: u8, value: u64) {
+// A good message of a type with MessageSize set to a size, of which so many bytes are lent, zeros
+// behind its end, and at a place a number of a width: type, size, length, place, width and number.
+pub fn case(line: &[u8]) {
+    let samples = samples::all();
     let mut bytes = [0u8; 256];
-    copy(base, &mut bytes);
-    patch(&mut bytes, 0, 2, size as u64);
-    patch(&mut bytes, at, width, value);
+    copy(samples::of_type(&samples, number(line, 0)), &mut bytes);
+    patch(&mut bytes, 0, 2, number(line, 1));
+    patch(
+        &mut bytes,
+        rows::place(line, 3),
+        number(line, 4),
+        number(line, 5),
+    );
+    let length = rows::place(line, 2);
     if length <= 256 {
-        show::message(label, &bytes[0..length]);
+        show::message(rows::label(line), &bytes[0..length]);
     }
 }
 
-fn patch(bytes: &mut [u8], at: usize, width: u8, value: u64) {
+fn patch(bytes: &mut [u8], at: usize, width: u64, value: u64) {
     if at <= 240 {
         if 256 <= bytes.len() {
             match width {
@@ -22,7 +32,7 @@ fn patch(bytes: &mut [u8], at: usize, width: u8, value: u64) {
                 2 => wire::put_u16(bytes, at, (value % 65536) as u16),
                 4 => wire::put_u32(bytes, at, (value % 4294967296) as u32),
                 8 => wire::put_u64(bytes, at, value),
-                _ => show::put(b""),
+                _ => {}
             }
         }
     }
@@ -41,382 +51,136 @@ fn copy(from: &[u8], to: &mut [u8]) {
 
 pub fn run() {
     references();
+    sizes();
+    adds();
     orders();
     shares();
 }
 
 fn references() {
-    let security = security();
-    securities(&security);
-    let spin_start = spin_start();
-    spin_starts(&spin_start);
-    let spin_end = spin_end();
-    spin_ends(&spin_end);
-    let session = session();
-    sessions(&session);
+    rows::run(
+        Table::Messages,
+        b"Security, exact size | 9 36 36 0 0 0\n\
+        Security, one byte short | 9 35 35 0 0 0\n\
+        Security, a symbol that starts with a space has no rule | 9 36 36 3 1 32\n\
+        Start of Spin, exact size | 11 16 16 0 0 0\n\
+        Start of Spin, one byte short | 11 15 15 0 0 0\n\
+        End of Spin, exact size | 12 20 20 0 0 0\n\
+        End of Spin, one byte short | 12 19 19 0 0 0\n\
+        Trading Session, exact size | 20 12 12 0 0 0\n\
+        Trading Session, one byte short | 20 11 11 0 0 0\n\
+        Trading Session 1 | 20 12 12 11 1 1\n\
+        Trading Session 5 | 20 12 12 11 1 5\n\
+        Trading Session 0 | 20 12 12 11 1 0\n\
+        Trading Session 2 | 20 12 12 11 1 2\n",
+    );
+}
+
+fn sizes() {
+    rows::run(
+        Table::Messages,
+        b"Order Add, exact size | 21 55 55 0 0 0\n\
+        Order Add, MessageSize 54 (P5) | 21 54 54 0 0 0\n\
+        Order Add, MessageSize 56 (P6) | 21 56 56 0 0 0\n\
+        Order Add, MessageSize 52, the payload alone | 21 52 52 0 0 0\n\
+        Order Add, MessageSize 55 in 56 bytes | 21 55 56 0 0 0\n\
+        Order Add, MessageSize 56 in 55 bytes | 21 56 55 0 0 0\n\
+        Order Add, MessageSize 0 | 21 0 55 0 0 0\n\
+        Order Add, MessageSize 65,535 | 21 65535 55 0 0 0\n\
+        Order Add of 128 bytes | 21 128 128 0 0 0\n\
+        Order Add of 129 bytes | 21 129 129 0 0 0\n\
+        Order Add, no byte lent | 21 55 0 0 0 0\n\
+        Order Add, 2 bytes lent | 21 2 2 0 0 0\n\
+        Order Add too short, its side X too | 21 54 54 21 1 88\n",
+    );
+}
+
+fn adds() {
+    rows::run(
+        Table::Messages,
+        b"Order Add, a small letter in the id | 21 55 55 18 1 97\n\
+        Order Add, a small letter in the id's last two | 21 55 55 19 1 97\n\
+        Order Add, side S | 21 55 55 21 1 83\n\
+        Order Add, side X | 21 55 55 21 1 88\n\
+        Order Add, quantity 0 | 21 55 55 22 4 0\n\
+        Order Add, quantity 4,294,967,295 | 21 55 55 22 4 4294967295\n\
+        Order Add, symbol starts with a space | 21 55 55 26 1 32\n\
+        Order Add, a symbol byte 0x7F | 21 55 55 27 1 127\n\
+        Order Add, a symbol byte 0x7E | 21 55 55 27 1 126\n\
+        Order Add, a symbol byte 0x1F | 21 55 55 39 1 31\n\
+        Order Add, price 0 | 21 55 55 40 8 0\n\
+        Order Add, price 1 | 21 55 55 40 8 1\n\
+        Order Add, price 9,223,372,036,854,775,807 | 21 55 55 40 8 9223372036854775807\n\
+        Order Add, price 9,223,372,036,854,775,808 | 21 55 55 40 8 9223372036854775808\n\
+        Order Add, unsolicited Y | 21 55 55 52 1 89\n\
+        Order Add, unsolicited X | 21 55 55 52 1 88\n\
+        Order Add, flags 65,535 | 21 55 55 53 2 65535\n",
+    );
 }
 
 fn orders() {
-    let add = add();
-    sizes(&add);
-    lengths(&add);
-    adds(&add);
-    symbols(&add);
-    prices(&add);
-    let update = update();
-    updates(&update);
-    let delete = delete();
-    deletes(&delete);
-    others(&delete);
-    let execution = execution();
-    executions(&execution);
-    let priced = priced();
-    own_prices(&priced);
+    rows::run(
+        Table::Messages,
+        b"Order Update, exact size | 22 35 35 0 0 0\n\
+        Order Update, one byte short | 22 34 34 0 0 0\n\
+        Order Update, quantity 0 | 22 35 35 21 4 0\n\
+        Order Update, price 0 | 22 35 35 25 8 0\n\
+        Order Delete, exact size | 23 21 21 0 0 0\n\
+        Order Delete, one byte short | 23 20 20 0 0 0\n\
+        Order Delete, a space in the id | 23 21 21 7 1 32\n\
+        Imbalance of 3 bytes | 23 3 3 2 1 28\n\
+        Imbalance of 21 bytes | 23 21 21 2 1 28\n\
+        type 0 of 3 bytes | 23 3 3 2 1 0\n\
+        type J of 20 bytes | 23 20 20 2 1 74\n\
+        type 255 of 128 bytes | 23 128 128 2 1 255\n\
+        Execution, exact size | 24 37 37 0 0 0\n\
+        Execution, one byte short | 24 36 36 0 0 0\n\
+        Execution, executed 0 | 24 37 37 21 4 0\n\
+        Execution, remaining 4,294,967,295 has no rule | 24 37 37 25 4 4294967295\n\
+        Execution with Price, exact size | 25 45 45 0 0 0\n\
+        Execution with Price, one byte short | 25 44 44 0 0 0\n\
+        Execution with Price, price 0 | 25 45 45 37 8 0\n",
+    );
 }
 
 fn shares() {
-    let top = top();
-    tops(&top);
-    let trade = trade();
-    trades(&trade);
-}
-
-fn securities(base: &[u8]) {
-    case(b"Security, exact size", base, 36, 36, 0, 0, 0);
-    case(b"Security, one byte short", base, 35, 35, 0, 0, 0);
-    case(
-        b"Security, a symbol that starts with a space has no rule",
-        base,
-        36,
-        36,
-        3,
-        1,
-        32,
+    rows::run(
+        Table::Messages,
+        b"Top of Book, exact size | 26 46 46 0 0 0\n\
+        Top of Book, one byte short | 26 45 45 0 0 0\n\
+        Top of Book, ask 0 | 26 46 46 21 8 0\n\
+        Top of Book, bid 0 | 26 46 46 33 8 0\n\
+        Top of Book, bid 9,223,372,036,854,775,808 | 26 46 46 33 8 9223372036854775808\n\
+        Top of Book, unsolicited 0 | 26 46 46 45 1 0\n\
+        Trade, exact size | 27 50 50 0 0 0\n\
+        Trade, one byte short | 27 49 49 0 0 0\n\
+        Trade, side S | 27 50 50 7 1 83\n\
+        Trade, quantity 0 | 27 50 50 8 4 0\n\
+        Trade, price 0 | 27 50 50 26 8 0\n\
+        Trade, reserved 18,446,744,073,709,551,615 | 27 50 50 42 8 18446744073709551615\n",
     );
 }
 
-fn spin_starts(base: &[u8]) {
-    case(b"Start of Spin, exact size", base, 16, 16, 0, 0, 0);
-    case(b"Start of Spin, one byte short", base, 15, 15, 0, 0, 0);
-}
-
-fn spin_ends(base: &[u8]) {
-    case(b"End of Spin, exact size", base, 20, 20, 0, 0, 0);
-    case(b"End of Spin, one byte short", base, 19, 19, 0, 0, 0);
-}
-
-fn sessions(base: &[u8]) {
-    case(b"Trading Session, exact size", base, 12, 12, 0, 0, 0);
-    case(b"Trading Session, one byte short", base, 11, 11, 0, 0, 0);
-    case(b"Trading Session 1", base, 12, 12, 11, 1, 1);
-    case(b"Trading Session 5", base, 12, 12, 11, 1, 5);
-    case(b"Trading Session 0", base, 12, 12, 11, 1, 0);
-    case(b"Trading Session 2", base, 12, 12, 11, 1, 2);
-}
-
-fn sizes(base: &[u8]) {
-    case(b"Order Add, exact size", base, 55, 55, 0, 0, 0);
-    case(b"Order Add, MessageSize 54 (P5)", base, 54, 54, 0, 0, 0);
-    case(b"Order Add, MessageSize 56 (P6)", base, 56, 56, 0, 0, 0);
-    case(
-        b"Order Add, MessageSize 52, the payload alone",
-        base,
-        52,
-        52,
-        0,
-        0,
-        0,
-    );
-    case(
-        b"Order Add, MessageSize 55 in 56 bytes",
-        base,
-        55,
-        56,
-        0,
-        0,
-        0,
-    );
-    case(
-        b"Order Add, MessageSize 56 in 55 bytes",
-        base,
-        56,
-        55,
-        0,
-        0,
-        0,
-    );
-    case(b"Order Add, MessageSize 0", base, 0, 55, 0, 0, 0);
-    case(b"Order Add, MessageSize 65,535", base, 65535, 55, 0, 0, 0);
-}
-
-fn lengths(base: &[u8]) {
-    case(b"Order Add of 128 bytes", base, 128, 128, 0, 0, 0);
-    case(b"Order Add of 129 bytes", base, 129, 129, 0, 0, 0);
-    case(b"Order Add, no byte lent", base, 55, 0, 0, 0, 0);
-    case(b"Order Add, 2 bytes lent", base, 2, 2, 0, 0, 0);
-    case(
-        b"Order Add too short, its side X too",
-        base,
-        54,
-        54,
-        21,
-        1,
-        88,
-    );
-}
-
-fn adds(base: &[u8]) {
-    case(
-        b"Order Add, a small letter in the id",
-        base,
-        55,
-        55,
-        18,
-        1,
-        97,
-    );
-    case(
-        b"Order Add, a small letter in the id's last two",
-        base,
-        55,
-        55,
-        19,
-        1,
-        97,
-    );
-    case(b"Order Add, side S", base, 55, 55, 21, 1, 83);
-    case(b"Order Add, side X", base, 55, 55, 21, 1, 88);
-    case(b"Order Add, quantity 0", base, 55, 55, 22, 4, 0);
-    case(
-        b"Order Add, quantity 4,294,967,295",
-        base,
-        55,
-        55,
-        22,
-        4,
-        4294967295,
-    );
-}
-
-fn symbols(base: &[u8]) {
-    case(
-        b"Order Add, symbol starts with a space",
-        base,
-        55,
-        55,
-        26,
-        1,
-        32,
-    );
-    case(b"Order Add, a symbol byte 0x7F", base, 55, 55, 27, 1, 127);
-    case(b"Order Add, a symbol byte 0x7E", base, 55, 55, 27, 1, 126);
-    case(b"Order Add, a symbol byte 0x1F", base, 55, 55, 39, 1, 31);
-}
-
-fn prices(base: &[u8]) {
-    case(b"Order Add, price 0", base, 55, 55, 40, 8, 0);
-    case(b"Order Add, price 1", base, 55, 55, 40, 8, 1);
-    case(
-        b"Order Add, price 9,223,372,036,854,775,807",
-        base,
-        55,
-        55,
-        40,
-        8,
-        9223372036854775807,
-    );
-    case(
-        b"Order Add, price 9,223,372,036,854,775,808",
-        base,
-        55,
-        55,
-        40,
-        8,
-        9223372036854775808,
-    );
-    case(b"Order Add, unsolicited Y", base, 55, 55, 52, 1, 89);
-    case(b"Order Add, unsolicited X", base, 55, 55, 52, 1, 88);
-    case(b"Order Add, flags 65,535", base, 55, 55, 53, 2, 65535);
-}
-
-fn updates(base: &[u8]) {
-    case(b"Order Update, exact size", base, 35, 35, 0, 0, 0);
-    case(b"Order Update, one byte short", base, 34, 34, 0, 0, 0);
-    case(b"Order Update, quantity 0", base, 35, 35, 21, 4, 0);
-    case(b"Order Update, price 0", base, 35, 35, 25, 8, 0);
-}
-
-fn deletes(base: &[u8]) {
-    case(b"Order Delete, exact size", base, 21, 21, 0, 0, 0);
-    case(b"Order Delete, one byte short", base, 20, 20, 0, 0, 0);
-    case(b"Order Delete, a space in the id", base, 21, 21, 7, 1, 32);
-}
-
-fn executions(base: &[u8]) {
-    case(b"Execution, exact size", base, 37, 37, 0, 0, 0);
-    case(b"Execution, one byte short", base, 36, 36, 0, 0, 0);
-    case(b"Execution, executed 0", base, 37, 37, 21, 4, 0);
-    case(
-        b"Execution, remaining 4,294,967,295 has no rule",
-        base,
-        37,
-        37,
-        25,
-        4,
-        4294967295,
-    );
-}
-
-fn own_prices(base: &[u8]) {
-    case(b"Execution with Price, exact size", base, 45, 45, 0, 0, 0);
-    case(
-        b"Execution with Price, one byte short",
-        base,
-        44,
-        44,
-        0,
-        0,
-        0,
-    );
-    case(b"Execution with Price, price 0", base, 45, 45, 37, 8, 0);
-}
-
-fn tops(base: &[u8]) {
-    case(b"Top of Book, exact size", base, 46, 46, 0, 0, 0);
-    case(b"Top of Book, one byte short", base, 45, 45, 0, 0, 0);
-    case(b"Top of Book, ask 0", base, 46, 46, 21, 8, 0);
-    case(b"Top of Book, bid 0", base, 46, 46, 33, 8, 0);
-    case(
-        b"Top of Book, bid 9,223,372,036,854,775,808",
-        base,
-        46,
-        46,
-        33,
-        8,
-        9223372036854775808,
-    );
-    case(b"Top of Book, unsolicited 0", base, 46, 46, 45, 1, 0);
-}
-
-fn trades(base: &[u8]) {
-    case(b"Trade, exact size", base, 50, 50, 0, 0, 0);
-    case(b"Trade, one byte short", base, 49, 49, 0, 0, 0);
-    case(b"Trade, side S", base, 50, 50, 7, 1, 83);
-    case(b"Trade, quantity 0", base, 50, 50, 8, 4, 0);
-    case(b"Trade, price 0", base, 50, 50, 26, 8, 0);
-    case(
-        b"Trade, reserved 18,446,744,073,709,551,615",
-        base,
-        50,
-        50,
-        42,
-        8,
-        18446744073709551615,
-    );
-}
-
-fn others(base: &[u8]) {
-    case(b"Imbalance of 3 bytes", base, 3, 3, 2, 1, 28);
-    case(b"Imbalance of 21 bytes", base, 21, 21, 2, 1, 28);
-    case(b"type 0 of 3 bytes", base, 3, 3, 2, 1, 0);
-    case(b"type J of 20 bytes", base, 20, 20, 2, 1, 74);
-    case(b"type 255 of 128 bytes", base, 128, 128, 2, 1, 255);
-}
-
+// Written: type, room and place.
 pub fn written() {
-    written_references();
-    written_orders();
-    written_shares();
-    written_places();
-}
-
-fn written_references() {
-    let security = security();
-    writes::case(b"write Security", &security, 64, 3);
-    let start = spin_start();
-    writes::case(b"write Start of Spin", &start, 64, 3);
-    let end = spin_end();
-    writes::case(b"write End of Spin", &end, 64, 3);
-    let session = session();
-    writes::case(b"write Trading Session", &session, 64, 3);
-}
-
-fn written_orders() {
-    let add = add();
-    writes::case(b"write Order Add", &add, 64, 3);
-    let update = update();
-    writes::case(b"write Order Update", &update, 64, 3);
-    let delete = delete();
-    writes::case(b"write Order Delete", &delete, 64, 3);
-    let execution = execution();
-    writes::case(b"write Execution", &execution, 64, 3);
-    let priced = priced();
-    writes::case(b"write Execution with Price", &priced, 64, 3);
-}
-
-fn written_shares() {
-    let top = top();
-    writes::case(b"write Top of Book", &top, 64, 3);
-    let trade = trade();
-    writes::case(b"write Trade", &trade, 64, 3);
-}
-
-fn written_places() {
-    let delete = delete();
-    writes::case(b"write Order Delete, exact room", &delete, 24, 3);
-    writes::case(b"write Order Delete, one byte too few", &delete, 23, 3);
-    writes::case(b"write Order Delete behind the end", &delete, 24, 25);
-    writes::case(
-        b"write Order Delete at the largest place",
-        &delete,
-        24,
-        18446744073709551615,
+    rows::run(
+        Table::Writes,
+        b"write Security | 9 64 3\n\
+        write Start of Spin | 11 64 3\n\
+        write End of Spin | 12 64 3\n\
+        write Trading Session | 20 64 3\n\
+        write Order Add | 21 64 3\n\
+        write Order Update | 22 64 3\n\
+        write Order Delete | 23 64 3\n\
+        write Execution | 24 64 3\n\
+        write Execution with Price | 25 64 3\n\
+        write Top of Book | 26 64 3\n\
+        write Trade | 27 64 3\n\
+        write Order Delete, exact room | 23 24 3\n\
+        write Order Delete, one byte too few | 23 23 3\n\
+        write Order Delete behind the end | 23 24 25\n\
+        write Order Delete at the largest place | 23 24 18446744073709551615\n\
+        write Imbalance | 28 64 0\n\
+        write Imbalance behind the end | 28 0 1\n",
     );
-    let other = *b"\x00\x03\x1C";
-    writes::case(b"write Imbalance", &other, 64, 0);
-    writes::case(b"write Imbalance behind the end", &other, 0, 1);
-}
-
-fn security() -> [u8; 36] {
-    *b"\x00$\x09MSFTF         \x00\x00\x01\x9AG\x03t\x00\x02\x01\x00\x01\x11q\x00\x01\x00AA"
-}
-
-fn spin_start() -> [u8; 16] {
-    *b"\x00\x10\x0B\x01\x00\x00\x01\x9AG\x03t\x00\x00\x00\x00\x00"
-}
-
-fn spin_end() -> [u8; 20] {
-    *b"\x00\x14\x0C\x01\x00\x00\x00\x04\x00\x00\x01\x9AG\x03t\x00\x00\x00\x00\x04"
-}
-
-fn session() -> [u8; 12] {
-    *b"\x00\x0C\x14\x00\x00\x01\x9AG\x03t\x00\x06"
-}
-
-fn add() -> [u8; 55] {
-    *b"\x007\x15\x04J\xA2\x007A400CY528L9SNB\x00\x00\x01,MSFTF         \x00\x00\x00\x00\x00\x13\x12\xD0ABCDN\x00\x00"
-}
-
-fn update() -> [u8; 35] {
-    *b"\x00#\x16\x04J\xA2\x007A400CY528L9SN\x00\x00\x00\xC8\x00\x00\x00\x00\x00\x12\xEB\xC0\x00\x00"
-}
-
-fn delete() -> [u8; 21] {
-    *b"\x00\x15\x17\x04J\xA2\x007A400CY528L9SN"
-}
-
-fn execution() -> [u8; 37] {
-    *b"\x00%\x18\x04J\xA2\x007A400CY528L9SN\x00\x00\x00d\x00\x00\x00\xC8\x00\x00\x00\x00\x00\x00#)"
-}
-
-fn priced() -> [u8; 45] {
-    *b"\x00-\x19\x04J\xA2\x007A400CY528L9SN\x00\x00\x00d\x00\x00\x00\xC8\x00\x00\x00\x00\x00\x00#*\x00\x00\x00\x00\x00\x12\xFFH"
-}
-
-fn top() -> [u8; 46] {
-    *b"\x00.\x1A\x04J\xA2\x00MSFTF         \x00\x00\x00\x00\x00\x139\xE0\x00\x00\x01\x90\x00\x00\x00\x00\x00\x13\x12\xD0\x00\x00\x01\xF4N"
-}
-
-fn trade() -> [u8; 50] {
-    *b"\x002\x1B\x04J\xA2\x00B\x00\x00\x002MSFTF         \x00\x00\x00\x00\x00\x13\x12\xD0\x00\x00\x00\x00\x00\x00#+\x00\x00\x00\x00\x00\x00\x00\x07"
 }

@@ -4,6 +4,7 @@ use crate::made;
 use crate::made::none;
 use crate::made::packet_of;
 use crate::made::sent;
+use crate::rows;
 use crate::show;
 use message::Message;
 use session::asking;
@@ -114,9 +115,35 @@ fn codes() {
 fn requests() {
     let waits = sent(Session::open(10), 12, bid(0), bid(1));
     answers::taken(b"P12 opened at 10, numbers 12 and 13", waits);
-    asked(b"P12 requests", waits.session, 24);
-    asked(b"P12 requests, exact room", waits.session, 12);
-    asked(b"P12 requests, one byte too few", waits.session, 11);
+    questions(
+        waits.session,
+        b"P12 requests | 1 24\n\
+        P12 requests, exact room | 1 12\n\
+        P12 requests, one byte too few | 1 11\n",
+    );
+}
+
+// Each line of a table asked in turn.
+fn questions(session: Session, lines: &[u8])
+    requires { ⌜ Ruled session ⌝ }
+{
+    let mut from = 0;
+    while from < lines.len() {
+        let stop = rows::find(lines, from, b'\n');
+        question(session, &lines[from..stop]);
+        from = stop + 1;
+    }
+}
+
+// 0 and a number: the gap from there on; 1 and a size: the requests in so many bytes.
+fn question(session: Session, line: &[u8])
+    requires { ⌜ Ruled session ⌝ }
+{
+    if rows::number(line, 0) == 0 {
+        gap(rows::label(line), session, rows::number(line, 1));
+    } else {
+        asked(rows::label(line), session, rows::place(line, 1));
+    }
 }
 
 // The requests written to the first `room` bytes of a buffer of 0xEE.
@@ -124,11 +151,11 @@ fn asked(label: &[u8], session: Session, room: usize)
     requires { ⌜ Ruled session ⌝ }
 {
     show::put(label);
-    show::put(b": ");
+    show::colon();
     let mut buf = [0xEEu8; 24];
     requested(session, &mut buf, room);
     show::hex(&buf);
-    show::put(b"\n");
+    show::end();
 }
 
 fn requested(session: Session, buf: &mut [u8], room: usize)
@@ -158,17 +185,16 @@ fn gaps() {
     let second = sent(first.session, 15, bid(0), none());
     let session = second.session;
     answers::taken(b"opened at 10, numbers 12 and 15", second);
-    gap(b"gap from 0", session, 0);
-    gap(b"gap from 11", session, 11);
-    gap(b"gap from 12", session, 12);
-    gap(b"gap from 15", session, 15);
-    gap(
-        b"gap from the largest number",
+    questions(
         session,
-        18446744073709551615,
+        b"gap from 0 | 0 0\n\
+        gap from 11 | 0 11\n\
+        gap from 12 | 0 12\n\
+        gap from 15 | 0 15\n\
+        gap from the largest number | 0 18446744073709551615\n\
+        requests of two gaps | 1 24\n\
+        requests of two gaps, one byte too few | 1 23\n",
     );
-    asked(b"requests of two gaps", session, 24);
-    asked(b"requests of two gaps, one byte too few", session, 23);
 }
 
 fn gap(label: &[u8], session: Session, from: u64)
@@ -179,7 +205,7 @@ fn gap(label: &[u8], session: Session, from: u64)
     show::put(b":");
     show::number(gap.start);
     show::number(gap.count);
-    show::put(b"\n");
+    show::end();
 }
 
 fn bursts() {
@@ -194,7 +220,7 @@ fn burst(label: &[u8], room: usize) {
     show::put(label);
     answered(&packets, &mut list, room);
     listed(&list);
-    show::put(b"\n");
+    show::end();
 }
 
 fn answered(packets: &[u8], list: &mut [u64], room: usize) {

@@ -9,6 +9,16 @@ pub fn put(text: &[u8]) {
     io::write_all(libc::STDOUT_FILENO, text);
 }
 
+// Between a label and its answer.
+pub fn colon() {
+    put(b": ");
+}
+
+// The end of a line.
+pub fn end() {
+    put(b"\n");
+}
+
 pub fn number(n: u64) {
     put(b" ");
     io::print_decimal(libc::STDOUT_FILENO, n);
@@ -45,12 +55,12 @@ fn wide(b: u8) -> u64 {
 pub fn refused(number: u8) {
     put(b"refused");
     byte(number);
-    put(b"\n");
+    end();
 }
 
 pub fn header(label: &[u8], s: &[u8]) {
     put(label);
-    put(b": ");
+    colon();
     match packet::read_header(s) {
         HeaderAnswer::Refused(number) => refused(number),
         HeaderAnswer::Fields(h) => {
@@ -60,14 +70,14 @@ pub fn header(label: &[u8], s: &[u8]) {
             byte(h.flag);
             byte(h.messages);
             small(h.milli);
-            put(b"\n");
+            end();
         }
     }
 }
 
 pub fn message(label: &[u8], s: &[u8]) {
     put(label);
-    put(b": ");
+    colon();
     let answer = message::read(s);
     let verdict = answer.verdict;
     match verdict {
@@ -75,7 +85,7 @@ pub fn message(label: &[u8], s: &[u8]) {
         Verdict::Accepted => {
             put(b"message");
             fields(answer.message);
-            put(b"\n");
+            end();
         }
     }
 }
@@ -177,7 +187,7 @@ fn reference(m: Message) {
             number(time);
             byte(session);
         }
-        _ => put(b""),
+        _ => {},
     }
 }
 
@@ -240,7 +250,7 @@ fn order(m: Message) {
             number(execution);
             price_of(terms);
         }
-        _ => put(b""),
+        _ => {},
     }
 }
 
@@ -281,6 +291,6 @@ fn share(m: Message) {
             number(execution);
             number(reserved);
         }
-        _ => put(b""),
+        _ => {},
     }
 }

@@ -13,9 +13,9 @@ pub fn run() {
 
 fn line(label: &[u8], which: u8) {
     show::put(label);
-    show::put(b": ");
+    show::colon();
     sweep(which);
-    show::put(b"\n");
+    show::end();
 }
 
 fn sweep(which: u8) {

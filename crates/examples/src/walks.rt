@@ -57,7 +57,7 @@ fn walked(label: &[u8], s: &[u8]) {
         at = reader::cursor::behind(s, at);
         k += 1;
     }
-    show::put(b"\n");
+    show::end();
 }
 
 fn part(message: &[u8]) {

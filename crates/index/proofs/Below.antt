@@ -67,3 +67,8 @@ module _ (f : ℕ → ℕ) (v : ℕ) where
       let low = above n r (below f v n) h (highest n) in
       let high = above n (below f v n) r (highest n) h in
       omega arith
+
+pub below-same : (f g : ℕ → ℕ) (v n : ℕ) → ((p : ℕ) → p < n → f p ≡ g p) → below f v n ≡ below g v n
+unfolding below
+below-same f g v zero h = refl
+below-same f g v (suc n) h = simp (h n (omega arith), below-same f g v n (λ p l. h p (omega arith)))

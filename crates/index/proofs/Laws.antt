@@ -9,7 +9,7 @@ use borrow.Author.Tests.{eqb-true, eqb-false}
 use lib.Dec.{eqb}
 use lib.ListN.{length, getD, take, set, replicate, length-replicate, getD-replicate, length-map, List·getD-map}
 use lib.Seq.{ext-getD}
-use Rattle.index.specs.Chains.{chainOf, chainAt, cellOf, indexBy, indexOf, lastAt, firstFrom}
+use Rattle.index.specs.Chains.{below, chainOf, chainAt, cellOf, indexBy, indexOf, lastAt, firstFrom}
 use Rattle.index.specs.Changes.{without}
 use Rattle.index.proofs.Below.{pick, order, only}
 use Rattle.index.proofs.Cells.{cell-on, cell-off}
@@ -49,62 +49,70 @@ index-empty =
 
 -- ---- the first place and the last
 
+-- the first of n numbers at which f is v, plus 1 and counted from k on, by what it is
+pub record First (f : ℕ → ℕ) (v k n r : ℕ) : Type 0 where
+  most : r ≤ k + n
+  low : 0 < r → k < r
+  there : 0 < r → f (r - 1 - k) ≡ v
+  none : r ≡ 0 → (p : ℕ) → p < n → f p ≢ v
+
+module _ (f : ℕ → ℕ) (v k : ℕ) where
+  pub first-none : First f v k 0 0
+  first-none =
+      record { most = omega arith; low = λ h. absurd (omega arith); there = λ h. absurd (omega arith); none = λ e p h. absurd (omega arith) }
+
+  pub first-here : (n : ℕ) → f 0 ≡ v → First f v k (suc n) (suc k)
+  first-here n e =
+      let back : suc k - 1 - k ≡ 0 = omega arith in
+      record { most = omega arith; low = λ h. omega arith; there = λ h. rw back e; none = λ z. absurd (omega arith) }
+
+  pub first-on : (n r : ℕ) → f 0 ≢ v → First (λ p. f (suc p)) v (suc k) n r → First f v k (suc n) r
+  first-on n r e x =
+      let most : r ≤ suc k + n = x .most in
+      record {
+        most = omega arith;
+        low = λ h. let q : suc k < r = x .low h in omega arith;
+        there = λ h. let q : suc k < r = x .low h in let back : r - 1 - k ≡ suc (r - 1 - suc k) = omega arith in rw back (x .there h);
+        none = λ z. rest (x .none z);
+      }
+    where
+      rest : ((p : ℕ) → p < n → f (suc p) ≢ v) → (p : ℕ) → p < suc n → f p ≢ v
+      rest g zero h = e
+      rest g (suc p) h = g p (omega arith)
+
+-- where f is v at one number at most, the first is the last
+module _ (f : ℕ → ℕ) (v n : ℕ) (once : (i j : ℕ) → i < j → j < n → f i ≡ v → f j ≢ v) where
+  pub first-last : (r : ℕ) → First f v 0 n r → below f v n ≡ r
+  first-last r x = only f v (record { most = most; there = there; free = free })
+    where
+      most : r ≤ n
+      most = let m : r ≤ 0 + n = x .most in omega arith
+
+      there : 0 < r → f (r - 1) ≡ v
+      there h = let back : r - 1 - 0 ≡ r - 1 = omega arith in rw back at (x .there h)
+
+      free : (p : ℕ) → r ≤ p → p < n → f p ≢ v
+      free p l h =
+          order 0 r
+          (λ q. once (r - 1) p (omega arith) h (there q))
+          (λ q. x .none (omega arith) p h)
+
 abbrev pub Distinct : List ℕ → Type 0
 Distinct xs = (i j : ℕ) → i < j → j < length xs → getD xs i 0 ≢ getD xs j 0
 
--- the first place from k on, by what it is
-record First (k key : ℕ) (xs : List ℕ) (r : ℕ) : Type 0 where
-  most : r ≤ k + length xs
-  low : 0 < r → k < r
-  there : 0 < r → getD xs (r - 1 - k) 0 ≡ key
-  none : r ≡ 0 → (p : ℕ) → p < length xs → getD xs p 0 ≢ key
-
-first-is : (k key : ℕ) (xs : List ℕ) → First k key xs (firstFrom k key xs)
+first-is : (k key : ℕ) (xs : List ℕ) → First (λ p. getD xs p 0) key k (length xs) (firstFrom k key xs)
 unfolding firstFrom
-first-is k key [] =
-    record { most = omega arith; low = λ h. absurd (omega arith); there = λ h. absurd (omega arith); none = λ e p h. absurd (omega arith) }
+first-is k key [] = first-none (λ (p : ℕ). getD [] p 0) key k
 first-is k key (x ∷ xs) =
-    pick (First k key (x ∷ xs)) (eqb x key)
-    (λ e. here (eqb-true x key e))
-    (λ e. on (eqb-false x key e) (firstFrom (suc k) key xs) (first-is (suc k) key xs))
-  where
-    here : x ≡ key → First k key (x ∷ xs) (suc k)
-    here e =
-        let back : suc k - 1 - k ≡ 0 = omega arith in
-        record { most = omega arith; low = λ h. omega arith; there = λ h. rw back e; none = λ z. absurd (omega arith) }
-
-    on : x ≢ key → (r : ℕ) → First (suc k) key xs r → First k key (x ∷ xs) r
-    on n r f =
-        let most : r ≤ suc k + length xs = f .most in
-        record {
-          most = omega arith;
-          low = λ h. let q : suc k < r = f .low h in omega arith;
-          there = λ h. let q : suc k < r = f .low h in let back : r - 1 - k ≡ suc (r - 1 - suc k) = omega arith in rw back (f .there h);
-          none = λ z. rest (f .none z);
-        }
-      where
-        rest : ((p : ℕ) → p < length xs → getD xs p 0 ≢ key) → (p : ℕ) → p < suc (length xs) → getD (x ∷ xs) p 0 ≢ key
-        rest g zero h = n
-        rest g (suc p) h = g p (omega arith)
+    let f : ℕ → ℕ = λ p. getD (x ∷ xs) p 0 in
+    pick (First f key k (suc (length xs))) (eqb x key)
+    (λ e. first-here f key k (length xs) (eqb-true x key e))
+    (λ e. first-on f key k (length xs) (firstFrom (suc k) key xs) (eqb-false x key e) (first-is (suc k) key xs))
 
 pub last-first : (key : ℕ) (ids : List ℕ) → Distinct ids → lastAt key ids ≡ firstFrom 0 key ids
 unfolding lastAt
-last-first key ids distinct = only (λ (p : ℕ). getD ids p 0) key (record { most = most; there = there; free = free })
-  where
-    f : First 0 key ids (firstFrom 0 key ids)
-    f = first-is 0 key ids
-
-    most : firstFrom 0 key ids ≤ length ids
-    most = let m : firstFrom 0 key ids ≤ 0 + length ids = f .most in omega arith
-
-    there : 0 < firstFrom 0 key ids → getD ids (firstFrom 0 key ids - 1) 0 ≡ key
-    there h = let back : firstFrom 0 key ids - 1 - 0 ≡ firstFrom 0 key ids - 1 = omega arith in rw back at (f .there h)
-
-    free : (p : ℕ) → firstFrom 0 key ids ≤ p → p < length ids → getD ids p 0 ≢ key
-    free p l h e =
-        order 0 (firstFrom 0 key ids)
-        (λ q. distinct (firstFrom 0 key ids - 1) p (omega arith) h (there q ∙ sym e))
-        (λ q. f .none (omega arith) p h e)
+last-first key ids distinct =
+    first-last (λ (p : ℕ). getD ids p 0) key (length ids) (λ i j l h e z. distinct i j l h (e ∙ sym z)) (firstFrom 0 key ids) (first-is 0 key ids)
 
 -- ---- a removal goes through a map
 

@@ -6,3 +6,4 @@ pub mod Walks
 pub mod Moves
 pub mod Laws
 pub mod Kept
+pub mod Pairs

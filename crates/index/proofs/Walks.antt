@@ -7,9 +7,9 @@ use Prim.Native.Nat.{ℕ, zero, suc, _+_, _-_, _≤_, _<_}
 use native.Mathlib.Omega.{arith}
 use lib.ListN.{length, getD, take, length-map, List·getD-eq-default}
 use lib.Seq.{getD-take, length-take-le}
-use Rattle.index.specs.Chains.{chainOf, chainAt, indexBy, indexOf, lastAt, Indexed, IsLast}
+use Rattle.index.specs.Chains.{below, chainOf, chainAt, indexBy, indexOf, lastAt, Indexed, IsLast}
 use Rattle.index.specs.Changes.{Behind}
-use Rattle.index.proofs.Below.{order, Highest, only}
+use Rattle.index.proofs.Below.{order, Highest, highest, only, below-same}
 use Rattle.index.proofs.Chained.{chain-below, of-place, head-on, lower, inside, reading}
 
 -- the chains of keys: that of each, and behind them none
@@ -54,86 +54,93 @@ module _ (index chains : List ℕ) (key place cell : ℕ) (is : index ≡ indexB
 
 -- ---- to a key
 
--- a cell of the key's chain, with the key at no place from it on
-pub record Seeking (keys : List ℕ) (live key cell : ℕ) : Type 0 where
+-- an index of n keys, and what a walk along a key's chain looks for: the last place at which f is v, where only the key stands
+pub record Sought (index ids : List ℕ) (n key : ℕ) (f : ℕ → ℕ) (v : ℕ) : Type 0 where
+  pub is : index ≡ indexOf ids
+  pub count : length ids ≡ n
+  pub few : n ≤ 256
+  pub only-key : (p : ℕ) → p < n → f p ≡ v → getD ids p 0 ≡ key
+
+-- a cell of the key's chain, with f not v at any place from it on
+pub record Seeking (ids : List ℕ) (n key : ℕ) (f : ℕ → ℕ) (v cell : ℕ) : Type 0 where
   pub within : cell < 765
-  pub on : chainAt (map chainOf (take live keys)) cell ≡ chainOf key
-  pub free : (p : ℕ) → cell ≤ p → p < live → getD keys p 0 ≢ key
+  pub on : chainAt (map chainOf ids) cell ≡ chainOf key
+  pub free : (p : ℕ) → cell ≤ p → p < n → f p ≢ v
 
-module _ (index keys : List ℕ) (live key cell : ℕ) (x : Indexed index keys live) where
-  abbrev ids : List ℕ
-  ids = take live keys
-
-  count : length ids ≡ live
-  count = let few : live ≤ 256 = x .few in let size : length keys ≡ 256 = x .size in length-take-le live keys (omega arith)
-
-  chain-live : (p : ℕ) → p < live → chainAt (map chainOf ids) p ≡ chainOf (getD keys p 0)
-  chain-live p h =
-      let few : live ≤ 256 = x .few in
+module _ {index ids : List ℕ} {n key : ℕ} {f : ℕ → ℕ} {v : ℕ} (x : Sought index ids n key f v) where
+  chain-live : (p : ℕ) → p < n → f p ≡ v → chainAt (map chainOf ids) p ≡ chainOf key
+  chain-live p h e =
+      let few : n ≤ 256 = x .few in
       of-place (map chainOf ids) p (omega arith)
-      ∙ chain-in ids p (rw count h)
-      ∙ ap chainOf (getD-take live keys p 0 h)
+      ∙ chain-in ids p (rw (x .count) h)
+      ∙ ap chainOf (x .only-key p h e)
 
-  -- the answer, by what it is
-  is-last : (r : ℕ) → r ≤ live → (0 < r → getD keys (r - 1) 0 ≡ key) → ((p : ℕ) → r ≤ p → p < live → getD keys p 0 ≢ key) → IsLast key keys live r
-  unfolding lastAt
-  is-last r most there free =
-      record {
-        is = sym
-            (only (λ (p : ℕ). getD ids p 0) key
-            (record {
-              most = rw count most;
-              there = λ l. getD-take live keys (r - 1) 0 (omega arith) ∙ there l;
-              free = λ p l m e. let m₂ : p < live = rw count at m in free p l m₂ (sym (getD-take live keys p 0 m₂) ∙ e);
-            }));
-        most = most;
-      }
-
-  pub seek-head : cell ≡ 256 + chainOf key → Seeking keys live key cell
-  seek-head e =
+  pub seek-head : (cell : ℕ) → cell ≡ 256 + chainOf key → Seeking ids n key f v cell
+  seek-head cell e =
       let l = chain-below key in
-      let few : live ≤ 256 = x .few in
+      let few : n ≤ 256 = x .few in
       record { within = omega arith; on = head-on (map chainOf ids) (chainOf key) cell e; free = λ p l m. absurd (omega arith) }
 
-  module _ (w : Seeking keys live key cell) where
+  module _ {cell : ℕ} (w : Seeking ids n key f v cell) where
     abbrev at : ℕ
     at = getD index cell 0
 
-    sought : Highest (chainAt (map chainOf ids)) (chainOf key) cell at
+    read : Highest (chainAt (map chainOf ids)) (chainOf key) cell at
     unfolding indexOf
-    sought = reading (map chainOf ids) (chainOf key) cell (x .is) (w .within) (w .on) (chain-below key)
+    read = reading (map chainOf ids) (chainOf key) cell (x .is) (w .within) (w .on) (chain-below key)
 
-    none-from : (p : ℕ) → at ≤ p → p < live → getD keys p 0 ≢ key
+    none-from : (p : ℕ) → at ≤ p → p < n → f p ≢ v
     none-from p l m e =
         order p cell
-        (λ q. sought .free p l q (chain-live p m ∙ ap chainOf e))
+        (λ q. read .free p l q (chain-live p m e))
         (λ q. w .free p q m e)
 
     pub seek-most : at < 766
-    seek-most = let most : at ≤ cell = sought .most in let within : cell < 765 = w .within in omega arith
+    seek-most = let most : at ≤ cell = read .most in let within : cell < 765 = w .within in omega arith
 
-    pub seek-none : at ≡ 0 → IsLast key keys live 0
-    seek-none e = is-last 0 (omega arith) (λ l. absurd (omega arith)) (λ p l. none-from p (omega arith))
+    pub seek-none : at ≡ 0 → below f v n ≡ 0
+    seek-none e =
+        only f v (record { most = omega arith; there = λ l. absurd (omega arith); free = λ p l. none-from p (omega arith) })
 
     pub seek-falls : at ≢ 0 → at - 1 < cell
-    seek-falls h = let most : at ≤ cell = sought .most in omega arith
+    seek-falls h = let most : at ≤ cell = read .most in omega arith
 
-    pub seek-live : at ≢ 0 → at - 1 < live
+    pub seek-live : at ≢ 0 → at - 1 < n
     seek-live h =
-        let on : chainAt (map chainOf ids) (at - 1) ≡ chainOf key = sought .there (omega arith) in
+        let on : chainAt (map chainOf ids) (at - 1) ≡ chainOf key = read .there (omega arith) in
         let low : at - 1 < 256 = lower (map chainOf ids) (at - 1) cell (seek-falls h) (on ∙ sym (w .on)) in
         let l = inside (map chainOf ids) (chainOf key) (at - 1) (chain-below key) (sym (of-place (map chainOf ids) (at - 1) low) ∙ on) in
-        omega (arith, length-map ids chainOf, count)
+        omega (arith, length-map ids chainOf, x .count)
 
-    pub seek-found : at ≢ 0 → getD keys (at - 1) 0 ≡ key → IsLast key keys live at
-    seek-found h e = let l = seek-live h in is-last at (omega arith) (λ q. e) none-from
+    pub seek-found : at ≢ 0 → f (at - 1) ≡ v → below f v n ≡ at
+    seek-found h e = let l = seek-live h in only f v (record { most = omega arith; there = λ q. e; free = none-from })
 
-    pub seek-on : at ≢ 0 → getD keys (at - 1) 0 ≢ key → Seeking keys live key (at - 1)
+    pub seek-on : at ≢ 0 → f (at - 1) ≢ v → Seeking ids n key f v (at - 1)
     seek-on h e =
         let fall = seek-falls h in
         let within : cell < 765 = w .within in
         record {
           within = omega arith;
-          on = sought .there (omega arith);
+          on = read .there (omega arith);
           free = λ p l m. order p at (λ q. let z : p ≡ at - 1 = omega arith in rw z e) (λ q. none-from p q m);
         }
+
+-- an order is sought by its key
+module _ (index keys : List ℕ) (live key : ℕ) (x : Indexed index keys live) where
+  abbrev keyAt : ℕ → ℕ
+  keyAt p = getD keys p 0
+
+  count : length (take live keys) ≡ live
+  count = let few : live ≤ 256 = x .few in let size : length keys ≡ 256 = x .size in length-take-le live keys (omega arith)
+
+  pub seek-key : Sought index (take live keys) live key keyAt key
+  seek-key = record { is = x .is; count = count; few = x .few; only-key = λ p l e. getD-take live keys p 0 l ∙ e }
+
+  pub is-last : {r : ℕ} → below keyAt key live ≡ r → IsLast key keys live r
+  unfolding lastAt
+  is-last e =
+      let f : ℕ → ℕ = λ p. getD (take live keys) p 0 in
+      record {
+        is = sym e ∙ below-same keyAt f key live (λ p l. sym (getD-take live keys p 0 l)) ∙ ap (below f key) (sym count);
+        most = rw e at (highest keyAt key live .most);
+      }

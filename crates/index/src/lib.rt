@@ -1,14 +1,17 @@
-// Parts: the index of the live orders, by which one is found with no scan.
+// Parts: the index of the live orders, by which one is found with no scan; and that of the insides
+// held, which are found by the two numbers of a symbol.
 //
 // Cells 0 to 255 are the places, cell 256 + b is the head of chain b, and a key is on chain
 // key % 509 (specs/Chains.antt). A cell holds 1 more than the next place of its chain, or 0 at the
-// end. Along a chain the places fall, so every walk ends.
+// end. Along a chain the places fall, so every walk ends. An inside's key is its symbol's first
+// eight bytes (specs/Pairs.antt).
 ghost use mathlib.Core.Path.{_≡_};
 ghost use mathlib.Core.List.{List, [], _∷_, _++_};
 ghost use Prim.Native.Nat.{ℕ, _+_, _<_};
 ghost use lib.ListN.{set};
 ghost use Rattle.index.specs.Chains.{chainOf, indexBy, indexOf, Indexed, IsLast};
 ghost use Rattle.index.specs.Changes.{without, Open, Leaving, On, Last, Off, Behind};
+ghost use Rattle.index.specs.Pairs.{Paired, IsPair};
 
 // The cell of the head of a key's chain.
 fn head(key: u64) -> usize
@@ -31,6 +34,34 @@ pub fn find<'a>(index: &'a [u16; 765], keys: &'a [u64; 256], live: usize, key: u
         cell = at - 1;
         if keys[cell] == key {
             return at;
+        }
+    }
+}
+
+// The place of a symbol's inside, plus 1; 0 where none is held. Symbols that begin alike are on one
+// chain, so both numbers are compared.
+pub fn pair<'a>(
+    index: &'a [u16; 765],
+    fronts: &'a [u64; 64],
+    backs: &'a [u64; 64],
+    held: usize,
+    first: u64,
+    last: u64,
+) -> usize
+    requires { ⌜ Paired (now index) (now fronts) (now backs) held ⌝ }
+    ensures { λ r. ⌜ IsPair first last (now (fronts .entry)) (now (backs .entry)) held r ⌝ }
+{
+    let mut cell = head(first);
+    loop {
+        let at = index[cell] as usize;
+        if at == 0 {
+            return 0;
+        }
+        cell = at - 1;
+        if fronts[cell] == first {
+            if backs[cell] == last {
+                return at;
+            }
         }
     }
 }

@@ -1,7 +1,7 @@
 -- What a case of a message or a type gives, said once for all cases.
 -- Assumes nothing.
 use mathlib.Core.Path.{_≡_, refl, ap, _∙_, sym, subst}
-use mathlib.Core.Bool.{Bool, true, false, not}
+use mathlib.Core.Bool.{Bool, true, false, not, _&&_}
 use mathlib.Core.List.{List, [], _∷_}
 use Prim.Native.Nat.{ℕ, _+_, _≤_, _<_}
 use borrow.Author.Tests.{eqb-false, eqb-true, ltb-false, ne-eqb}
@@ -22,6 +22,10 @@ use Rattle.message.specs.declared.kinds.Body.{Body}
 -- the rules of a message whose kind is known
 pub kind-is : {body b : Body} (id symbol : List ℕ) (r : Bool) → body ≡ b → r ≡ goodBody id symbol b → r ≡ goodBody id symbol body
 kind-is id symbol r e h = h ∙ ap (goodBody id symbol) (sym e)
+
+-- one rule more: what `both` answers of an answer so far and the next one
+pub also : {a b x y r : Bool} → r ≡ (a && b) → a ≡ x → b ≡ y → r ≡ (x && y)
+also r f g = cc
 
 -- the fields of a message whose type is known
 pub type-is : {t k : ℕ} (s : List ℕ) (m : Message) → t ≡ k → m ≡ fieldsOf k s → m ≡ fieldsOf t s

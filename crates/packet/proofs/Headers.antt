@@ -8,10 +8,15 @@ use native.Mathlib.Omega.{arith}
 use borrow.Author.Tests.{lt-ltb, le-ltb, eq-eqb, ne-eqb, ltb-false, eqb-true}
 use lib.Dec.{ltb, eqb}
 use lib.ListN.{length}
-use Rattle.packet.specs.Header.{headerIn, headerTests, flagsOf, decided, judged, headerOf}
+use Rattle.wire.specs.Layout.{Value, numberIn}
+use Rattle.packet.specs.Header.{headerFrom, headerIn, headerTests, flagsOf, decided, judged, headerOf}
 use Rattle.packet.specs.declared.header.Header.{Header}
 use Rattle.packet.specs.declared.header.HeaderAnswer.the-variants.{Fields, Refused}
 use Rattle.packet.specs.declared.header.Judged.{Judged}
+
+-- a header whose fields are the values of a row is the header of that row
+pub row-is : (row : List Value) {size seq flag messages milli : ℕ} → size ≡ numberIn row 0 → seq ≡ numberIn row 1 → flag ≡ numberIn row 2 → messages ≡ numberIn row 3 → milli ≡ numberIn row 4 → _≡_ {A = Header} (record { size = size; seq = seq; flag = flag; messages = messages; milli = milli }) (headerFrom row)
+row-is row e0 e1 e2 e3 e4 = cc
 
 module _ (s : List ℕ) where
   pub few : length s < 12 → judged (1, 0) ≡ judged (decided (headerTests s))

@@ -58,16 +58,16 @@ all-free p (suc n) =
     let e : suc n * 128 ≡ 128 + n * 128 = omega arith in
     ap (λ (k : ℕ). replicate k 0) e ∙ sym (replicate-more 128 (n * 128) 0) ∙ ap (λ (l : List ℕ). replicate 128 0 ++ l) (all-free (suc p) n)
 
-pub opens-fresh : (n : ℕ) → sessionOf (book.rep fresh) (replicate 765 0) (replicate 32768 0) n n ≡ rep (opened feed n)
+pub opens-fresh : (n : ℕ) → sessionOf (book.rep fresh) (replicate 765 0) (replicate 765 0) (replicate 32768 0) n n ≡ rep (opened feed n)
 unfolding opened windowFor windowOf
-opens-fresh n = λ i. sessionOf (book.rep fresh) (sym index-empty i) (all-free 0 256 i) n n
+opens-fresh n = λ i. sessionOf (book.rep fresh) (sym index-empty i) (sym index-empty i) (all-free 0 256 i) n n
 
 pub opened-with : (n : ℕ) {order : Order} {inside : Inside} → order ≡ noOrder → inside ≡ noInside
     → _≡_ {A = Session}
-    (record { orders = replicate 256 order; keys = replicate 256 0; insides = replicate 64 inside; fronts = replicate 64 0; backs = replicate 64 0; live = 0; held = 0; next = n; end = n; faults = record { number = 0; count = 0; reason = 0 }; index = replicate 765 0; code = 0; window = replicate 32768 0 })
+    (record { orders = replicate 256 order; keys = replicate 256 0; insides = replicate 64 inside; fronts = replicate 64 0; backs = replicate 64 0; live = 0; held = 0; next = n; end = n; faults = record { number = 0; count = 0; reason = 0 }; index = replicate 765 0; seats = replicate 765 0; code = 0; window = replicate 32768 0 })
     (rep (opened feed n))
 unfolding places
-opened-with n o i = (λ j. record { orders = replicate 256 (o j); keys = replicate 256 0; insides = replicate 64 (i j); fronts = replicate 64 0; backs = replicate 64 0; live = 0; held = 0; next = n; end = n; faults = record { number = 0; count = 0; reason = 0 }; index = replicate 765 0; code = 0; window = replicate 32768 0 }) ∙ opens-fresh n
+opened-with n o i = (λ j. record { orders = replicate 256 (o j); keys = replicate 256 0; insides = replicate 64 (i j); fronts = replicate 64 0; backs = replicate 64 0; live = 0; held = 0; next = n; end = n; faults = record { number = 0; count = 0; reason = 0 }; index = replicate 765 0; seats = replicate 765 0; code = 0; window = replicate 32768 0 }) ∙ opens-fresh n
 
 pub rule-of : {s t : Session} → s ≡ t → Ruled t → Ruled s
 rule-of e r = subst Ruled (sym e) r

@@ -1,18 +1,21 @@
 -- What the index tells is the place that the look-up is defined by.
 -- Assumes nothing.
 use mathlib.Core.Path.{_≡_, refl, ap, _∙_, sym}
-use mathlib.Core.Bool.{Bool, true, false, cond}
+use mathlib.Core.Bool.{Bool, true, false, cond, _&&_}
 use mathlib.Core.List.{List, [], _∷_}
 use Prim.Native.Nat.{ℕ, zero, suc, _-_}
 use native.Mathlib.Omega.{arith}
 use borrow.Author.Tests.{eq-eqb, ne-eqb}
 use lib.Dec.{eqb}
-use lib.ListN.{take}
+use lib.ListN.{length, take}
+use lib.Seq.{length-take-le}
 use Rattle.fields.specs.Id.{noValue}
 use Rattle.index.specs.Chains.{IsLast, firstFrom}
+use Rattle.index.specs.Pairs.{IsPair, Paired, firstPair}
 use Rattle.index.proofs.Laws.{last-first}
-use Rattle.book.specs.Lookup.{keyAt, keyFrom}
-use Rattle.book.specs.Rule.{Distinct}
+use Rattle.index.proofs.Pairs.{pair-first}
+use Rattle.book.specs.Lookup.{backOf, frontOf, keyAt, keyFrom, pairFrom, symbolAt}
+use Rattle.book.specs.Rule.{Apart, Distinct}
 use Rattle.book.specs.declared.lookup.Found.{Found}
 use Rattle.book.specs.declared.lookup.Found.the-variants.{At, Nothing}
 
@@ -49,3 +52,41 @@ module _ {keys : List ℕ} {live key at : ℕ} (apart : Distinct (take live keys
   found-there some =
       let e : at ≡ suc (at - 1) = omega (arith, some) in
       sym (is-place ∙ ap placeOf e)
+
+-- ---- a symbol, by its two numbers
+
+same-pair : (k first last : ℕ) (xs ys : List ℕ) → pairFrom k first last xs ys ≡ placeOf (firstPair k first last xs ys)
+unfolding pairFrom firstPair
+same-pair k first last [] [] = refl
+same-pair k first last [] (y ∷ ys) = refl
+same-pair k first last (x ∷ xs) [] = refl
+same-pair k first last (x ∷ xs) (y ∷ ys) = go (eqb x first && eqb y last) (same-pair (suc k) first last xs ys)
+  where
+    go : (b : Bool) → pairFrom (suc k) first last xs ys ≡ placeOf (firstPair (suc k) first last xs ys)
+        → cond b (At k) (pairFrom (suc k) first last xs ys) ≡ placeOf (cond b (suc k) (firstPair (suc k) first last xs ys))
+    go true rest = refl
+    go false rest = rest
+
+module _ (symbol fronts backs : List ℕ) (held : ℕ) {first last : ℕ} (fore : first ≡ frontOf symbol) (aft : last ≡ backOf symbol) where
+  pub no-symbol : first ≡ 0 → Nothing ≡ symbolAt symbol (take held fronts) (take held backs)
+  unfolding symbolAt
+  no-symbol e = sym (ap (λ (b : Bool). cond b Nothing (pairFrom 0 (frontOf symbol) (backOf symbol) (take held fronts) (take held backs))) (eq-eqb (frontOf symbol) 0 (sym fore ∙ e)))
+
+  module _ (paired : length (take held fronts) ≡ length (take held backs)) (apart : Apart (take held fronts) (take held backs)) (named : first ≡ 0 → ⊥) {at : ℕ} (is : IsPair first last fronts backs held at) where
+    is-seat : symbolAt symbol (take held fronts) (take held backs) ≡ placeOf at
+    unfolding symbolAt
+    is-seat =
+        ap (λ (b : Bool). cond b Nothing (pairFrom 0 (frontOf symbol) (backOf symbol) (take held fronts) (take held backs))) (ne-eqb (frontOf symbol) 0 (λ e. named (fore ∙ e)))
+        ∙ (λ i. pairFrom 0 (sym fore i) (sym aft i) (take held fronts) (take held backs))
+        ∙ same-pair 0 first last (take held fronts) (take held backs)
+        ∙ ap placeOf (sym (is .is ∙ pair-first first last (take held fronts) (take held backs) paired apart))
+
+    pub no-seat : at ≡ 0 → Nothing ≡ symbolAt symbol (take held fronts) (take held backs)
+    no-seat e = sym (is-seat ∙ ap placeOf e)
+
+    pub seat-there : (at ≡ 0 → ⊥) → At (at - 1) ≡ symbolAt symbol (take held fronts) (take held backs)
+    seat-there any = let e : at ≡ suc (at - 1) = omega (arith, any) in sym (is-seat ∙ ap placeOf e)
+
+pub held-same : {seats fronts backs : List ℕ} {held : ℕ} → Paired seats fronts backs held → length (take held fronts) ≡ length (take held backs)
+held-same {seats} {fronts} {backs} {held} x =
+    length-take-le held fronts (omega (arith, x .few, x .fronts)) ∙ sym (length-take-le held backs (omega (arith, x .few, x .backs)))

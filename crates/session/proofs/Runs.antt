@@ -24,15 +24,17 @@ use Rattle.merge.proofs.Places.{held-place, step-put}
 use Rattle.merge.proofs.Window.{nothing-waits, waits-where}
 use Rattle.packet.specs.Header.{decided}
 use Rattle.index.specs.Chains.{Indexed, indexOf}
+use Rattle.index.specs.Pairs.{Paired}
 use Rattle.index.specs.Changes.{Open as Room, Leaving, without}
 use Rattle.index.proofs.Kept.{asks-put, asks-remove, kept-put, kept-remove}
+use Rattle.index.proofs.Pairs.{asks-seat, kept-seat}
 use Rattle.waiting.specs.Window.{sizeAt, startOf, waitsAt, windowOf, zeros}
 use Rattle.waiting.proofs.Held.{clear-window, with, with-other, with-same}
 use Rattle.waiting.proofs.Parts.{part-front, part-long}
 use Rattle.book.specs.Applying.{Whole, applyOf}
-use Rattle.book.specs.Rule.{Distinct, Kept}
+use Rattle.book.specs.Rule.{Apart, Distinct, Kept}
 use Rattle.book.specs.Tables as book
-use Rattle.book.specs.Tables.{Tables, idsOf}
+use Rattle.book.specs.Tables.{Tables, frontsOf}
 use Rattle.book.specs.declared.tables.Book.{Book}
 use Rattle.book.proofs.Keeping as keeping
 use Rattle.source.specs.Source.{Begins, Goes, Lies as InBytes, messageAt, onwardOf, sizeIn, textAfter, windowAfter}
@@ -47,7 +49,7 @@ use Rattle.taking.proofs.Windows.{Within, fine, in-places, place-free, place-us
 use Rattle.session.specs.Meaning.{State, bookIn, feed, overnight, rep, sessionOf, view, Ruled}
 use Rattle.session.specs.Bursts.{Runs, burstFrom, framesOf, packetsOf, refusalOf, rowOf, rowWith, rowsOf}
 use Rattle.session.specs.declared.state.Session.{Session}
-use Rattle.session.proofs.States.{Good, Stands, good-kept, good-step, ids-of, index-of, indexed-rep, kept, meaning, neat, stands, waits-below, within}
+use Rattle.session.proofs.States.{Good, Stands, good-kept, good-step, backs-of, fronts-of, ids-of, index-of, indexed-rep, seated-rep, seats-of, kept, meaning, neat, stands, waits-below, within}
 
 -- ---- the packets that are left lie one behind the other
 
@@ -172,11 +174,12 @@ finish x before next = applyUpTo feed (before + 256 - next) x
 abbrev rowsFrom : Turn → List ℕ → State → List (ℕ × ℕ) → List ℕ
 rowsFrom turn s z rest = answerIf (turn .begun) (rowWith (turn .before) (turn .refusal) z) ++ rowsOf z (map (bytesAt s) rest)
 
-pub record Open (all : State) (written : List ℕ) (s : List ℕ) (single : Bool) (answers : List ℕ) (b : Book) (index w : List ℕ) (next : ℕ) (turn : Turn) (source : Source) : Type 0 where
+pub record Open (all : State) (written : List ℕ) (s : List ℕ) (single : Bool) (answers : List ℕ) (b : Book) (index seats w : List ℕ) (next : ℕ) (turn : Turn) (source : Source) : Type 0 where
   pub state : State
   pub good : Good state
   pub book : b ≡ book.rep (state .tables)
   pub indexed : Indexed index (b .keys) (b .live)
+  pub seated : Paired seats (b .fronts) (b .backs) (b .held)
   pub ahead : Ahead s (source .left) (source .from) (state .next) w (state .waiting)
   pub long : length w ≡ 32768
   pub at : next ≡ state .next
@@ -192,9 +195,9 @@ pub record Open (all : State) (written : List ℕ) (s : List ℕ) (single : Bool
   pub big : length answers ≤ 18446744073709551615
 
 -- a packet is admitted
-module _ (all : State) (written : List ℕ) (x : State) (s : List ℕ) (single : Bool) (answers : List ℕ) {b : Book} {index w w′ : List ℕ} {next end at left place : ℕ} {turn : Turn}
+module _ (all : State) (written : List ℕ) (x : State) (s : List ℕ) (single : Bool) (answers : List ℕ) {b : Book} {index seats w w′ : List ℕ} {next end at left place : ℕ} {turn : Turn}
     (bytes : Bytes s) (g : Good x) (front : x .waiting (x .next) ≡ none)
-    (books : b ≡ book.rep (x .tables)) (indexed : Indexed index (b .keys) (b .live)) (window : w ≡ windowFor (x .waiting) (x .next)) (nexts : next ≡ x .next) (ends : end ≡ x .end)
+    (books : b ≡ book.rep (x .tables)) (indexed : Indexed index (b .keys) (b .live)) (seated : Paired seats (b .fronts) (b .backs) (b .held)) (window : w ≡ windowFor (x .waiting) (x .next)) (nexts : next ≡ x .next) (ends : end ≡ x .end)
     (f : ℕ × ℕ) (fs : List (ℕ × ℕ)) (lie : Rest single s at (f ∷ fs)) (many : left ≡ length fs)
     (session : all ≡ takeAll overnight x (map (bytesAt s) (f ∷ fs)))
     (rows : written ≡ splice answers place (rowsOf x (map (bytesAt s) (f ∷ fs))))
@@ -256,7 +259,7 @@ module _ (all : State) (written : List ℕ) (x : State) (s : List ℕ) (single :
         ap length is ∙ window-size (within good),
       )
 
-  pub opens : Open all written s single answers b index w′ next turn (record { left = turn .direct; from = turn .from })
+  pub opens : Open all written s single answers b index seats w′ next turn (record { left = turn .direct; from = turn .from })
   unfolding takeAll rowsOf p y Led
   opens =
       let before : turn .before ≡ next = ap (λ (t : Turn). t .before) turned in
@@ -270,6 +273,7 @@ module _ (all : State) (written : List ℕ) (x : State) (s : List ℕ) (single :
         good = good;
         book = books ∙ ap book.rep (sym (kn .1));
         indexed = indexed;
+        seated = seated;
         ahead = on .0;
         long = on .1;
         at = nexts ∙ sym (kn .0);
@@ -303,14 +307,28 @@ leads s (suc left) from next w waiting any a =
 none-ahead : (s : List ℕ) (left from next : ℕ) (w : List ℕ) (waiting : ℕ → Option (List ℕ)) → left ≡ 0 → Ahead s left from next w waiting → w ≡ windowFor waiting next
 none-ahead s left from next w waiting e a = subst (λ (n : ℕ). Ahead s n from next w waiting) e a
 
+-- what the code knows of a message at next, once it is copied out
+pub record Here (s : List ℕ) (source : Source) (size : ℕ) (text : List ℕ) (next before faults : ℕ) : Type 0 where
+  pub whole : Whole (messageAt (take size text) s source size)
+  pub lies : InBytes s source size
+  pub cut : size ≤ length text
+  pub long : size ≡ length (take size text)
+  pub wide : length text ≡ 128
+  pub below : next < 4294967296
+  pub counted : faults ≤ next
+  pub fewer : before + 256 - (next + 1) < before + 256 - next
+
 -- what waits at next, by the size where it lies
-module _ {all : State} {written : List ℕ} {s : List ℕ} {single : Bool} {answers : List ℕ} {b : Book} {index w : List ℕ} {next : ℕ} {turn : Turn} {source : Source}
-    (o : Open all written s single answers b index w next turn source) where
+module _ {all : State} {written : List ℕ} {s : List ℕ} {single : Bool} {answers : List ℕ} {b : Book} {index seats w : List ℕ} {next : ℕ} {turn : Turn} {source : Source}
+    (o : Open all written s single answers b index seats w next turn source) where
   pub keeps : Kept b
   keeps = subst Kept (sym (o .book)) (kept (o .good))
 
   pub distinct : Distinct (take (b .live) (b .keys))
   distinct = subst Distinct (sym (ids-of (o .state .tables) (o .book))) (o .good .sound .distinct)
+
+  pub apart : Apart (take (b .held) (b .fronts)) (take (b .held) (b .backs))
+  apart = subst (λ (l : List ℕ). Apart l (take (b .held) (b .backs))) (sym (fronts-of (o .state .tables) (o .book))) (subst (Apart (frontsOf (o .state .tables .insides))) (sym (backs-of (o .state .tables) (o .book))) (o .good .sound .apart))
 
   pub closes : Closes turn next (length answers)
   closes = record { low = o .low; room = omega (arith, o .room) }
@@ -378,14 +396,14 @@ module _ {all : State} {written : List ℕ} {s : List ℕ} {single : Bool} {answ
         same-length = ap length put ∙ length-splice answers (turn .place) (closing turn next) (omega (arith, closes .room, row-long))
 
         -- the last one
-        pub ends : turn .left ≡ 0 → (sessionOf b index w next (turn .end) ≡ rep all) × (answers′ ≡ written)
+        pub ends : turn .left ≡ 0 → (sessionOf b index seats w next (turn .end) ≡ rep all) × (answers′ ≡ written)
         unfolding takeAll rowsOf
         ends last = go (o .rest) refl
           where
-            go : (l : List (ℕ × ℕ)) → o .rest ≡ l → (sessionOf b index w next (turn .end) ≡ rep all) × (answers′ ≡ written)
+            go : (l : List (ℕ × ℕ)) → o .rest ≡ l → (sessionOf b index seats w next (turn .end) ≡ rep all) × (answers′ ≡ written)
             go [] e =
                 let whole-run : all ≡ o .state = o .session ∙ ap₂ (λ (z : State) (l : List (ℕ × ℕ)). takeAll overnight z (map (bytesAt s) l)) settled e in (
-                  (λ i. sessionOf (o .book i) (index-of (o .state .tables) (o .book) (o .indexed) i) (window i) (o .at i) (o .end i)) ∙ ap rep (sym whole-run),
+                  (λ i. sessionOf (o .book i) (index-of (o .state .tables) (o .book) (o .indexed) i) (seats-of (o .state .tables) (o .book) (o .seated) i) (window i) (o .at i) (o .end i)) ∙ ap rep (sym whole-run),
                   sym (put-row ∙ ap (λ (l : List (ℕ × ℕ)). splice answers′ (placeAfter turn) (rowsOf (o .state) (map (bytesAt s) l))) e ∙ splice-none answers′ (placeAfter turn)),
                 )
             go (f ∷ fs) e = absurd (omega (arith, o .left, last, ap length e))
@@ -404,13 +422,13 @@ module _ {all : State} {written : List ℕ} {s : List ℕ} {single : Bool} {answ
 
           pub follows : {w′ : List ℕ} {turn′ : Turn} → Bytes s → turn′ ≡ turnOf (stateOf w next (turn .end)) single s (turn .at) (turn .left - 1) (placeAfter turn)
               → w′ ≡ windowFor (heldBy (stateOf w next (turn .end)) (packetAt single s (turn .at)) .waiting) next
-              → Open all written s single answers′ b index w′ next turn′ (record { left = turn′ .direct; from = turn′ .from })
+              → Open all written s single answers′ b index seats w′ next turn′ (record { left = turn′ .direct; from = turn′ .from })
           follows {w′} {turn′} bytes turned after = go (o .rest) refl
             where
-              go : (l : List (ℕ × ℕ)) → o .rest ≡ l → Open all written s single answers′ b index w′ next turn′ (record { left = turn′ .direct; from = turn′ .from })
+              go : (l : List (ℕ × ℕ)) → o .rest ≡ l → Open all written s single answers′ b index seats w′ next turn′ (record { left = turn′ .direct; from = turn′ .from })
               go [] e = absurd (another [] e refl)
               go (f ∷ fs) e =
-                  opens all written (o .state) s single answers′ bytes (o .good) front (o .book) (o .indexed) window (o .at) (o .end) f fs
+                  opens all written (o .state) s single answers′ bytes (o .good) front (o .book) (o .indexed) (o .seated) window (o .at) (o .end) f fs
                   (subst (Rest single s (turn .at)) e (o .frames))
                   (omega (arith, o .left, ap length e))
                   (o .session ∙ ap₂ (λ (z : State) (l : List (ℕ × ℕ)). takeAll overnight z (map (bytesAt s) l)) settled e)
@@ -463,34 +481,31 @@ module _ {all : State} {written : List ℕ} {s : List ℕ} {single : Bool} {answ
           (λ e. ap length (is-copied e) ∙ part-long w (startOf (next % 256)) size)
           (λ n. ap length (is-led n) ∙ part-long s (source .from) (lengthAt s (source .from)) ∙ sym (size-led n))
 
-      pub whole : Whole m
+      whole : Whole m
       whole = o .good .whole (o .state .next) m waits
 
-      pub fits : size ≤ 128
+      fits : size ≤ 128
       fits = omega (arith, whole .most, sized)
 
-      pub wider : length text′ ≡ 128
+      wider : length text′ ≡ 128
       wider =
           by-cases (ℕ-discrete (source .left) 0)
           (λ e. ap length (fetched ∙ text-window source e w text (next % 256)) ∙ part-long w (startOf (next % 256)) 128)
           (λ n. ap length (fetched ∙ text-packet source n w text (next % 256)) ∙ wide)
 
-      pub cut : size ≤ length text′
+      cut : size ≤ length text′
       cut = omega (arith, fits, wider)
 
-      pub cut-long : size ≡ length (take size text′)
-      cut-long = sym (length-take-le size text′ cut)
-
-      pub lies : InBytes s source size
+      lies : InBytes s source size
       lies = record { within = λ n. omega (arith, led-by n .within, size-led n) }
 
       pub goes : length s ≤ 18446744073709551615 → Goes source size
       goes most = record { within = λ n. omega (arith, lies .within n) }
 
-      pub number-below : next < 4294967296
+      number-below : next < 4294967296
       number-below = omega (arith, o .at, waits-below (o .good) (o .state .next) waits)
 
-      pub counted : b .faults .count ≤ next
+      counted : b .faults .count ≤ next
       counted = subst (λ (c : Book). c .faults .count ≤ next) (sym (o .book)) (subst (λ (n : ℕ). o .state .tables .faults .count ≤ n) (sym (o .at)) (o .good .counted))
 
       early : next < turn .before + 256
@@ -543,16 +558,18 @@ module _ {all : State} {written : List ℕ} {s : List ℕ} {single : Bool} {answ
             ap length (freed-packet source n w (next % 256)) ∙ o .long,
           ))
 
-      pub applied : {b′ : Book} {index′ w′ : List ℕ} {source′ : Source} → b′ ≡ book.rep (applyOf (book.view b) next m) → Indexed index′ (b′ .keys) (b′ .live)
-          → w′ ≡ windowAfter w source (next % 256) → source′ ≡ onwardOf source size → Open all written s single answers b′ index′ w′ (next + 1) turn source′
+      pub applied : {b′ : Book} {index′ seats′ w′ : List ℕ} {source′ : Source} → b′ ≡ book.rep (applyOf (book.view b) next m) → Indexed index′ (b′ .keys) (b′ .live)
+          → Paired seats′ (b′ .fronts) (b′ .backs) (b′ .held)
+          → w′ ≡ windowAfter w source (next % 256) → source′ ≡ onwardOf source size → Open all written s single answers b′ index′ seats′ w′ (next + 1) turn source′
       unfolding step moved Led′
-      applied {b′} {index′} {w′} {source′} books indexed is on =
+      applied {b′} {index′} {seats′} {w′} {source′} books indexed seated is on =
           let tables : book.view b ≡ o .state .tables = ap book.view (o .book) ∙ keeping.view-rep (o .state .tables) in
           record {
             state = step feed (o .state) (some m);
             good = good-step (o .good) waits;
             book = books ∙ ap₂ (λ (t : Tables) (n : ℕ). book.rep (applyOf t n m)) tables (o .at);
             indexed = indexed;
+            seated = seated;
             ahead =
                 subst (λ (z : Source). Ahead s (z .left) (z .from) (o .state .next + 1) w′ (freedAt (o .state))) (sym on)
                 (subst (λ (l : List ℕ). Ahead s (onwardOf source size .left) (onwardOf source size .from) (o .state .next + 1) l (freedAt (o .state))) (sym is) (led-on .0));
@@ -570,9 +587,18 @@ module _ {all : State} {written : List ℕ} {s : List ℕ} {single : Bool} {answ
             big = o .big;
           }
 
-      -- the steps that are left
-      pub fewer : turn .before + 256 - (next + 1) < turn .before + 256 - next
-      fewer = omega (arith, early)
+      pub here : Here s source size text′ next (turn .before) (b .faults .count)
+      here =
+          record {
+            whole = whole;
+            lies = lies;
+            cut = cut;
+            long = sym (length-take-le size text′ cut);
+            wide = wider;
+            below = number-below;
+            counted = counted;
+            fewer = omega (arith, early);
+          }
 
 -- the burst's steps that are left: those of the packet at hand, and as many as a packet can have for each that follows
 pub less-turn : (turn turn′ : Turn) (next : ℕ) → turn′ .left ≡ turn .left - 1 → turn′ .before ≡ next → 1 ≤ turn .left
@@ -588,7 +614,7 @@ bytes-of (b ∷ s) h = (h 0, bytes-of s (λ i. h (suc i)))
 -- where the burst begins: no packet is at hand
 module _ {session : Session} (rule : Ruled session) (s : List ℕ) (single : Bool) {count : ℕ} (answers : List ℕ) (runs : Runs single s count (length answers)) where
   pub starts : {turn : Turn} → turn ≡ atStart (session .next) (session .end) count
-      → Open (takeAll overnight (view session) (take count (packetsOf single s))) (splice answers 0 (rowsOf (view session) (take count (packetsOf single s)))) s single answers (bookIn session) (session .index) (session .window) (session .next) turn (record { left = 0; from = 0 })
+      → Open (takeAll overnight (view session) (take count (packetsOf single s))) (splice answers 0 (rowsOf (view session) (take count (packetsOf single s)))) s single answers (bookIn session) (session .index) (session .seats) (session .window) (session .next) turn (record { left = 0; from = 0 })
   starts {turn} turned =
       let h : Stands session = stands rule in
       let x : State = h .state in
@@ -605,6 +631,7 @@ module _ {session : Session} (rule : Ruled session) (s : List ℕ) (single : Boo
         good = h .good;
         book = books;
         indexed = subst (λ (z : Session). Indexed (z .index) (z .keys) (z .live)) (sym (h .same)) (indexed-rep (h .good));
+        seated = subst (λ (z : Session). Paired (z .seats) (z .fronts) (z .backs) (z .held)) (sym (h .same)) (seated-rep (h .good));
         ahead = is;
         long = ap length is ∙ window-size (within (h .good));
         at = nexts;
@@ -624,8 +651,8 @@ module _ {session : Session} (rule : Ruled session) (s : List ℕ) (single : Boo
       }
 
 -- what the loop keeps
-pub record Going (all : State) (written : List ℕ) (s : List ℕ) (single : Bool) (answers₀ answers : List ℕ) (b : Book) (index w : List ℕ) (next : ℕ) (turn : Turn) (source : Source) (text : List ℕ) : Type 0 where
-  pub here : Open all written s single answers b index w next turn source
+pub record Going (all : State) (written : List ℕ) (s : List ℕ) (single : Bool) (answers₀ answers : List ℕ) (b : Book) (index seats w : List ℕ) (next : ℕ) (turn : Turn) (source : Source) (text : List ℕ) : Type 0 where
+  pub now : Open all written s single answers b index seats w next turn source
   pub wide : length text ≡ 128
   pub same : length answers ≡ length answers₀
 
@@ -635,6 +662,13 @@ past-last : (n : ℕ) (l : List ℕ) (x : ℕ) → take n (set l n x) ≡ take n
 past-last zero l x = refl
 past-last (suc n) [] x = refl
 past-last (suc n) (a ∷ l) x = ap (λ (k : List ℕ). a ∷ k) (past-last n l x)
+
+module _ {seats fronts backs : List ℕ} {held : ℕ} (x : Paired seats fronts backs held) where
+  pub seat-asks : held < 64 → (ids : List ℕ) × Room seats ids held
+  seat-asks few = (take held fronts, asks-seat seats fronts backs held x few)
+
+  pub seat-keeps : {after : List ℕ} (first last : ℕ) → held < 64 → ((ids : List ℕ) → Room seats ids held → after ≡ indexOf (ids ++ (first ∷ []))) → Paired after (set fronts held first) (set backs held last) (held + 1)
+  seat-keeps {after} first last few is = kept-seat seats fronts backs held x first last few (is (take held fronts) (asks-seat seats fronts backs held x few))
 
 module _ {index keys : List ℕ} {live : ℕ} (x : Indexed index keys live) where
   pub put-asks : live < 256 → (ids : List ℕ) × Room index ids live

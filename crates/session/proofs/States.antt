@@ -20,10 +20,12 @@ use Rattle.merge.proofs.Window.{next-end, waits-where}
 use Rattle.book.specs.Applying.{Whole, applyOf}
 use Rattle.book.specs.Rule.{Kept, Ready, Sound}
 use Rattle.book.specs.Tables as book
-use Rattle.book.specs.Tables.{Tables, idsOf}
+use Rattle.book.specs.Lookup.{backOf, frontOf}
+use Rattle.book.specs.Tables.{Tables, backsOf, frontsOf, idsOf}
 use Rattle.book.specs.declared.tables.Book.{Book}
 use Rattle.book.proofs.Steps.{front-keys}
 use Rattle.index.specs.Chains.{Indexed, indexOf}
+use Rattle.index.specs.Pairs.{Paired}
 use Rattle.book.proofs.Keeping as keeping
 use Rattle.book.proofs.Laws.{counted-next}
 use Rattle.taking.specs.Keeping.{Neat, keptBy, keptIf, windowFor}
@@ -128,6 +130,22 @@ index-of t is indexed = indexed .is ∙ ap indexOf (ids-of t is)
 
 pub indexed-rep : {x : State} → Good x → Indexed (indexOf (idsOf (x .tables .orders))) (book.rep (x .tables) .keys) (book.rep (x .tables) .live)
 indexed-rep {x} g = record { few = kept g .live; size = kept g .keys; is = ap indexOf (sym (ids-of {b = book.rep (x .tables)} (x .tables) refl)) }
+
+-- so it is with the insides, by the first of their symbols' two numbers
+pub fronts-of : {b : Book} (t : Tables) → b ≡ book.rep t → take (b .held) (b .fronts) ≡ frontsOf (t .insides)
+fronts-of {b} t is =
+    front-keys 64 (frontsOf (t .insides)) (ap (λ (c : Book). c .fronts) is) (ap (λ (c : Book). c .held) is ∙ sym (length-map (t .insides) (λ i. frontOf (i .symbol))))
+
+pub backs-of : {b : Book} (t : Tables) → b ≡ book.rep t → take (b .held) (b .backs) ≡ backsOf (t .insides)
+backs-of {b} t is =
+    front-keys 64 (backsOf (t .insides)) (ap (λ (c : Book). c .backs) is) (ap (λ (c : Book). c .held) is ∙ sym (length-map (t .insides) (λ i. backOf (i .symbol))))
+
+pub seats-of : {b : Book} (t : Tables) {seats : List ℕ} → b ≡ book.rep t → Paired seats (b .fronts) (b .backs) (b .held) → seats ≡ indexOf (frontsOf (t .insides))
+seats-of t is paired = paired .is ∙ ap indexOf (fronts-of t is)
+
+pub seated-rep : {x : State} → Good x → Paired (indexOf (frontsOf (x .tables .insides))) (book.rep (x .tables) .fronts) (book.rep (x .tables) .backs) (book.rep (x .tables) .held)
+seated-rep {x} g =
+    record { few = kept g .held; fronts = kept g .fronts; backs = kept g .backs; is = ap indexOf (sym (fronts-of {b = book.rep (x .tables)} (x .tables) refl)) }
 
 go-step : {x : State} → Good x → (o : Option (List ℕ)) → x .waiting (x .next) ≡ o → Good (step feed x o)
 unfolding step

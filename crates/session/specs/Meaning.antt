@@ -9,7 +9,7 @@ use Rattle.merge.specs.Session as merge
 use Rattle.merge.specs.Session.{Channel, Feed, opened, takeAll, takeOne}
 use Rattle.book.specs.Applying.{applyOf}
 use Rattle.book.specs.Tables as book
-use Rattle.book.specs.Tables.{Tables, fresh, idsOf}
+use Rattle.book.specs.Tables.{Tables, fresh, frontsOf, idsOf}
 use Rattle.book.specs.declared.tables.Book.{Book}
 use Rattle.index.specs.Chains.{indexOf}
 use Rattle.taking.specs.Keeping.{waitingOf, windowFor}
@@ -41,9 +41,9 @@ bookIn s =
       faults = s .faults;
     }
 
--- the session with these tables, index, window, next and end
-abbrev pub sessionOf : Book → List ℕ → List ℕ → ℕ → ℕ → Session
-sessionOf b index window next end =
+-- the session with these tables, indexes, window, next and end
+abbrev pub sessionOf : Book → List ℕ → List ℕ → List ℕ → ℕ → ℕ → Session
+sessionOf b index seats window next end =
     record {
       orders = b .orders;
       keys = b .keys;
@@ -56,13 +56,14 @@ sessionOf b index window next end =
       end = end;
       faults = b .faults;
       index = index;
+      seats = seats;
       code = b .code;
       window = window;
     }
 
 -- the one session that holds a meaning
 abbrev pub rep : State → Session
-rep x = sessionOf (book.rep (x .tables)) (indexOf (idsOf (x .tables .orders))) (windowFor (x .waiting) (x .next)) (x .next) (x .end)
+rep x = sessionOf (book.rep (x .tables)) (indexOf (idsOf (x .tables .orders))) (indexOf (frontsOf (x .tables .insides))) (windowFor (x .waiting) (x .next)) (x .next) (x .end)
 
 -- the meaning of a session
 abbrev pub view : Session → State

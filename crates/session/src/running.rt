@@ -1,13 +1,13 @@
 // Parts: the engine. It holds the tables and the window, and writes nothing but what a packet or a
 // message changes.
 use crate::finding::found;
+use crate::finding::seated;
 use crate::state::Session;
 use book::applying::recorded;
 use book::deciding::Effect;
 use book::deciding::seen_with;
 use book::lookup::back;
 use book::lookup::front;
-use book::lookup::look;
 use book::lookup::spot;
 use book::tables::no_order;
 use fields::digits;
@@ -72,7 +72,7 @@ pub fn run(
             let live = session.live;
             let held = session.held;
             let order = found(&session.index, &session.keys, live, key);
-            let inside = look(&session.fronts, &session.backs, held, topic);
+            let inside = seated(&session.seats, &session.fronts, &session.backs, held, topic);
             let there = session.orders[spot(order)];
             let seen = seen_with(live, order, there, held, inside);
             match source::effect(bytes, packets, here, size, key, seen) {
@@ -102,9 +102,11 @@ pub fn run(
                 }
                 Effect::Enter => {
                     session.insides[held] = source::inside(bytes, packets, here, size);
-                    session.fronts[held] = front(topic);
+                    let first = front(topic);
+                    session.fronts[held] = first;
                     session.backs[held] = back(topic);
                     session.held = held + 1;
+                    index::put(&mut session.seats, held, first);
                 }
                 Effect::Record(code) => session.code = code,
                 Effect::Unchanged => {}

@@ -9,9 +9,9 @@ ghost use mathlib.Core.Path.{_≡_};
 ghost use Rattle.merge.specs.Session.{opened};
 ghost use Rattle.session.specs.Meaning.{bookIn, feed, rep, Ruled};
 
-// The tables as a book has them, each a field of its own so that it is written in place; the index over
-// the orders' ids; the window of messages that wait for their turn; the lowest number not yet carried
-// and the largest known end.
+// The tables as a book has them, each a field of its own so that it is written in place; the indexes
+// over the orders' ids and the insides' symbols; the window of messages that wait for their turn; the
+// lowest number not yet carried and the largest known end.
 pub struct Session {
     pub orders: [Order; Session::ORDERS],
     pub keys: [u64; Session::ORDERS],
@@ -24,6 +24,7 @@ pub struct Session {
     pub end: u64,
     pub faults: Faults,
     pub index: [u16; Session::CELLS],
+    pub seats: [u16; Session::CELLS],
     pub code: u8,
     pub window: [u8; Session::PLACES],
 }
@@ -45,7 +46,7 @@ impl Session {
 
     pub const INSIDES: usize = 64;
 
-    // The index's cells: a follower for each order, and the heads of its chains.
+    // An index's cells: a follower for each place, and the heads of its chains.
     pub const CELLS: usize = 765;
 
     // The window's bytes: a longest message for each number.
@@ -75,6 +76,7 @@ impl Session {
             end: first,
             faults,
             index: [0u16; Self::CELLS],
+            seats: [0u16; Self::CELLS],
             code: 0,
             window: [0u8; Self::PLACES],
         }

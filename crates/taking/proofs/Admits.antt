@@ -1,17 +1,20 @@
 -- A packet judged by 1 to 10, by the test that decides; where none does, it is kept.
 -- Assumes nothing.
-use mathlib.Core.Path.{_≡_, refl, ap, _∙_, sym, subst}
+use mathlib.Core.Path.{_≡_, refl, ap, _∙_, sym, subst, fun-ext}
 use mathlib.Core.Bool.{Bool, true, false, cond, not, _&&_}
 use mathlib.Core.List.{List, [], _∷_, _++_, map}
 use mathlib.Core.Option.{Option, none, some}
 use Prim.Native.Nat.{ℕ, _+_, _-_, _%_, _≤_, _<_, max}
+use mathlib.Core.Logic.{by-cases}
+use native.Mathlib.Decide.{decLt}
 use native.Mathlib.Omega.{arith}
 use borrow.Author.Tests.{eq-eqb, eqb-true, ne-eqb, le-leb, lt-leb, ltb-false}
 use lib.Dec.{eqb, leb, ltb}
 use lib.ListN.{length, length-map}
 use Rattle.wire.specs.Choice.{firstOf}
-use Rattle.merge.specs.Session.{Packet, Session, heartbeat, keep, packet}
-use Rattle.merge.proofs.Clauses.{keep-heartbeat}
+use Rattle.merge.specs.Session.{Packet, Session, heartbeat, keep, keptAt, packet}
+use Rattle.merge.proofs.Clauses.{keep-heartbeat, kept-none as kept-none-at, kept-old}
+use Rattle.merge.proofs.Copies.{copy-none}
 use Rattle.packet.specs.Header as header
 use Rattle.packet.specs.Header.{Test, decided, flagTests, headerIn, headerTests}
 use Rattle.packet.specs.Judging.{bodyTests, faultOf, isBroken, judgeOf, lastOf, packetTests, unlessHeartbeat}
@@ -33,6 +36,10 @@ pub record Admits (w s : List ℕ) (next end : ℕ) (r : Admitted) (after : List
   pub answer : r ≡ admittedOf (stateOf w next end) s
   pub kept : after ≡ windowFor (heldBy (stateOf w next end) s .waiting) next
 
+pub and-right : (a b : Bool) → (a && b) ≡ true → b ≡ true
+and-right true b e = e
+and-right false b e = absurd (omega (arith, ap {B = ℕ} (λ (c : Bool). cond c 1 0) e))
+
 pub and-left : (a b : Bool) → (a && b) ≡ true → a ≡ true
 and-left true b e = refl
 and-left false b e = e
@@ -49,11 +56,12 @@ judge-yes : {Table : Type 0} (x : Session (List ℕ) Table) (s : List ℕ) → d
 unfolding judge
 judge-yes x s h = ap (λ (b : Bool). cond b (some (packetIn s)) none) (eq-eqb (decided (takeTests x s) .0) 0 h)
 
--- where nothing waits, nothing differs
-pub none-differs : (waiting : ℕ → Option (List ℕ)) → ((k : ℕ) → waiting k ≡ none) → (k : ℕ) (frames : List (ℕ × ℕ)) (s : List ℕ) → isSome (differFrom waiting k frames s) ≡ false
+-- where nothing waits under a packet's numbers, nothing differs
+pub none-differs : (waiting : ℕ → Option (List ℕ)) (k : ℕ) (frames : List (ℕ × ℕ)) (s : List ℕ) → ((j : ℕ) → k ≤ j → j < k + length frames → waiting j ≡ none)
+    → isSome (differFrom waiting k frames s) ≡ false
 unfolding differFrom
-none-differs waiting h k [] s = refl
-none-differs waiting h k (frame ∷ frames) s =
+none-differs waiting k [] s h = refl
+none-differs waiting k (frame ∷ frames) s h =
     ap
     (λ (o : Option (List ℕ)).
     isSome
@@ -61,19 +69,19 @@ none-differs waiting h k (frame ∷ frames) s =
       | none ↦ differFrom waiting (k + 1) frames s
       | some at ↦ some (frame .0 + at)
     ]))
-    (h k)
-    ∙ none-differs waiting h (k + 1) frames s
+    (h k (omega arith) (omega arith))
+    ∙ none-differs waiting (k + 1) frames s (λ j lo hi. h j (omega arith) (omega arith))
+
+below-none : (w : List ℕ) (next k : ℕ) → k < next → waitingOf w next k ≡ none
+unfolding waitingOf
+below-none w next k l = waiting-below 256 (waitsAt w) next k l
 
 pub none-waits : {w : List ℕ} {next end : ℕ} → Known w next end → end ≡ next → (k : ℕ) → waitingOf w next k ≡ none
-unfolding waitingOf
 none-waits {w} {next} {end} known level k = go (waitingOf w next k) refl
   where
-    below : k < next → waitingOf w next k ≡ none
-    below l = waiting-below 256 (waitsAt w) next k l
-
     go : (o : Option (List ℕ)) → waitingOf w next k ≡ o → o ≡ none
     go none e = refl
-    go (some m) e = sym e ∙ below (omega (arith, known .below k m e, level))
+    go (some m) e = sym e ∙ below-none w next k (omega (arith, known .below k m e, level))
 
 module _ {w : List ℕ} (s : List ℕ) {next : ℕ} (end : ℕ) (neat : Neat w next) where
   abbrev x : Session (List ℕ) (Unit {0})
@@ -134,13 +142,17 @@ module _ {w : List ℕ} (s : List ℕ) {next : ℕ} (end : ℕ) (neat : Neat w n
     kept-window : windowFor (keep x (packetIn s) .waiting) next ≡ windowFor (keptBy x s .waiting) next
     kept-window = ap (λ (y : Session (List ℕ) (Unit {0})). windowFor (y .waiting) next) (sym (kept-some yes))
 
-    -- a packet of no message leaves the window as it was
-    still : packetIn s .messages ≡ [] → w ≡ windowFor (keep x (packetIn s) .waiting) next → Admits w s next end (record { refusal = 0; end = to; direct = 0 }) w
-    still empty is =
+    -- a packet that leaves the window as it was: one of no message, or all of it old
+    left-alone : (straightIn x s ≡ true → length (packetIn s .messages) ≡ 0) → w ≡ windowFor (keep x (packetIn s) .waiting) next → Admits w s next end (record { refusal = 0; end = to; direct = 0 }) w
+    left-alone empty is =
         record {
-          answer = answers h kept-end (sym (none-of (straightIn x s) (countOf (judge x s)) (ap countOf yes ∙ ap length empty)));
+          answer = answers h kept-end (go (straightIn x s) empty);
           kept = same-held (neat .same) (is ∙ kept-window);
         }
+      where
+        go : (b : Bool) → (b ≡ true → length (packetIn s .messages) ≡ 0) → 0 ≡ cond b (countOf (judge x s)) 0
+        go true e = sym (ap countOf yes ∙ e refl)
+        go false e = refl
 
     taken : (eqb end next && eqb (packetIn s .first) next) ≡ false → {after : List ℕ} → after ≡ windowFor (keep x (packetIn s) .waiting) next
         → Admits w s next end (record { refusal = 0; end = to; direct = 0 }) after
@@ -205,9 +217,9 @@ module _ {w : List ℕ} (s : List ℕ) {next : ℕ} (end : ℕ) (neat : Neat w n
             let seq : head .seq ≡ headerIn s .seq = ap (λ (h : Header). h .seq) read in
             let k : keep x (packetIn s) ≡ record { next = next; end = max end (headerIn s .seq); waiting = waitingOf w next; tables = tt } = ap (keep x) p ∙ keep-heartbeat x (headerIn s .seq) in
             subst (λ (a : Admitted). Admits w s next end a w) (sym is)
-            (still d
+            (left-alone d
             (ends ∙ ap (max end) seq ∙ sym (ap (λ (y : Session (List ℕ) (Unit {0})). y .end) k))
-            (ap (λ (q : Packet (List ℕ)). q .messages) p)
+            (λ e. ap (λ (q : Packet (List ℕ)). length (q .messages)) p)
             (neat .same ∙ sym (ap (λ (y : Session (List ℕ) (Unit {0})). windowFor (y .waiting) next) k)))
 
         module _ (other : head .flag % 2 ≡ 1 → ⊥) where
@@ -285,17 +297,47 @@ module _ {w : List ℕ} (s : List ℕ) {next : ℕ} (end : ℕ) (neat : Neat w n
                     ∙ ap (λ (f : ℕ → Option (List ℕ)). windowFor f next) (same-kept (stateOf w next next) x (packet (head .seq) (map (bytesAt s) (framesFrom (head .messages) 12 s))) refl refl)
                     ∙ sym (ap (λ (q : Packet (List ℕ)). windowFor (keep x q .waiting) next) p)))
 
+                pub passes-by : head .seq + head .messages ≤ next → {r : Admitted} → r ≡ record { refusal = 0; end = to; direct = 0 } → Admits w s next end r w
+                unfolding keep
+                passes-by old {r} answer =
+                    let ms : List (List ℕ) = map (bytesAt s) (framesFrom (head .messages) 12 s) in
+                    let same : (k : ℕ) → keptAt x (packet (head .seq) (map (bytesAt s) (framesFrom (head .messages) 12 s))) k ≡ waitingOf w next k =
+                    λ k.
+                    by-cases (decLt k next)
+                    (λ l. kept-old x (packet (head .seq) (map (bytesAt s) (framesFrom (head .messages) 12 s))) k l)
+                    (λ l. kept-none-at x (packet (head .seq) (map (bytesAt s) (framesFrom (head .messages) 12 s))) k (copy-none (packet (head .seq) (map (bytesAt s) (framesFrom (head .messages) 12 s))) k (λ c. omega (arith, c .low, c .high, n)))) in
+                    subst (λ (a : Admitted). Admits w s next end a w) (sym answer)
+                    (left-alone (tested false e) end-is
+                    (λ z. ap (λ (q : Packet (List ℕ)). length (q .messages)) p ∙ n ∙ none-new (head .seq) (head .messages) old (level-seq z))
+                    (neat .same ∙ sym (ap (λ (q : Packet (List ℕ)). windowFor (keep x q .waiting) next) p ∙ ap (λ (f : ℕ → Option (List ℕ)). windowFor f next) (fun-ext same))))
+                  where
+                    none-new : (first many : ℕ) → first + many ≤ next → first ≡ next → many ≡ 0
+                    none-new first many h at = omega arith
+
+                    level-seq : straightIn x s ≡ true → head .seq ≡ next
+                    level-seq z = eqb-true (head .seq) next (and-right (eqb end next) (eqb (head .seq) next) (sym (starts (tested false e) end-is ∙ sym level ∙ at-next) ∙ z))
+
                 pub goes-on : b ≡ true → {r : Admitted} → r ≡ record { refusal = 0; end = to; direct = head .messages } → Admits w s next end r w
                 goes-on yes {r} answer =
                     subst (λ (a : Admitted). Admits w s next end a w) (sym answer)
                     (goes (tested false e) end-is (sym level ∙ yes) (sym n ∙ sym (ap (λ (q : Packet (List ℕ)). length (q .messages)) p)))
+
+            -- all of it is old, so nothing differs
+            pub old-on : head .seq + head .messages ≤ next → {to : ℕ} → to ≡ max end (head .seq + head .messages) → {r : Admitted} → r ≡ record { refusal = 0; end = to; direct = 0 } → Admits w s next end r w
+            old-on old ends answer =
+                passes-by {differ = isSome (differFrom (waitingOf w next) (head .seq) (framesFrom (head .messages) 12 s) s)} refl
+                (none-differs (waitingOf w next) (head .seq) (framesFrom (head .messages) 12 s) s (λ j lo hi. below-none w next j (omega (arith, length-frames (head .messages) 12 s))))
+                ends
+                refl
+                old
+                answer
 
             -- nothing is known beyond next, so nothing differs
             pub straight-on : Known w next end → {to : ℕ} → to ≡ max end (head .seq + head .messages) → {b : Bool} → b ≡ (eqb end next && eqb (head .seq) next) → b ≡ true
                 → {r : Admitted} → r ≡ record { refusal = 0; end = to; direct = head .messages } → Admits w s next end r w
             straight-on known ends at-next yes answer =
                 goes-on {differ = isSome (differFrom (waitingOf w next) (head .seq) (framesFrom (head .messages) 12 s) s)} refl
-                (none-differs (waitingOf w next) (none-waits known (eqb-true end next (and-left (eqb end next) (eqb (head .seq) next) (sym at-next ∙ yes)))) (head .seq) (framesFrom (head .messages) 12 s) s)
+                (none-differs (waitingOf w next) (head .seq) (framesFrom (head .messages) 12 s) s (λ j lo hi. none-waits known (eqb-true end next (and-left (eqb end next) (eqb (head .seq) next) (sym at-next ∙ yes))) j))
                 ends
                 at-next
                 yes

@@ -26,7 +26,7 @@ use Rattle.taking.specs.Taking.{bytesAt, framesIn, judge, packetIn, take
 use Rattle.taking.specs.Keeping.{countOf, keptBy, keptIf, startsAt, straightIn, windowFor}
 use Rattle.taking.specs.Turns.{lengthAt}
 use Rattle.taking.proofs.Accepted.{judged, length-frames}
-use Rattle.taking.proofs.Admits.{and-left}
+use Rattle.taking.proofs.Admits.{and-left, and-right}
 use Rattle.taking.proofs.Passing.{Walks, walks}
 use Rattle.taking.proofs.Walks.{Goes, goes}
 use Rattle.taking.proofs.Windows.{same-window}
@@ -40,10 +40,6 @@ abbrev pub Ahead : List ℕ → ℕ → ℕ → ℕ → List ℕ → (ℕ → Op
 Ahead s zero from next window waiting = window ≡ windowFor waiting next
 Ahead s (suc left) from next window waiting =
     (waiting next ≡ some (part s from (lengthAt s from))) × ((from + lengthAt s from ≤ length s) × Ahead s left (from + lengthAt s from) (next + 1) window (freed next waiting))
-
-and-right : (a b : Bool) → (a && b) ≡ true → b ≡ true
-and-right true b e = e
-and-right false b e = absurd (omega (arith, ap {B = ℕ} (λ (c : Bool). cond c 1 0) e))
 
 -- a window that holds nothing
 abbrev empty : List ℕ

@@ -62,6 +62,9 @@ pub fn admit(window: &mut [u8; 32768], next: u64, end: u64, s: &[u8], sizes: &[u
     if next + 256 < stop {
         return by(9, end, 0);
     }
+    if stop <= next {
+        return by(0, most(end, stop), 0);
+    }
     if straight(next, end, first) {
         return by(0, most(end, stop), messages as usize);
     }

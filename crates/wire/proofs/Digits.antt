@@ -44,7 +44,7 @@ num-small (b ∷ bs) h =
     (digits-lt (h .0) (num-small bs (h .1)))
 
 -- what stands above w bytes does not show in them
-be-low : (w q r : ℕ) → be w (q * 256 ^ w + r) ≡ be w r
+pub be-low : (w q r : ℕ) → be w (q * 256 ^ w + r) ≡ be w r
 be-low zero q r = refl
 be-low (suc w) q r =
     let e : q * 256 ^ suc w ≡ q * 256 * 256 ^ w = ap (λ (x : ℕ). q * x) (pow-succ' 256 w) ∙ sym (mul-assoc q 256 (256 ^ w)) in

@@ -3,7 +3,9 @@
 use mathlib.Core.Path.{_≡_, refl, ap, _∙_, sym, subst}
 use mathlib.Core.List.{List, [], _∷_, _++_, append-assoc, append-nil}
 use Prim.Native.Nat.{ℕ, _+_, _^_, _≤_, _<_}
+use native.Mathlib.Nat.{le-trans}
 use native.Mathlib.Omega.{arith}
+use lib.Dec.{T, leb, lit≤}
 use lib.ListN.{length, length-append}
 use Rattle.wire.specs.Layout.{Field, number, text, Value, numberIs, textIs, sizeOf, widthOf, valueAt, decode, bytesOf, encode, putRow, Holds, Fits}
 use Rattle.wire.specs.Number.{num, be, part, splice, Bytes}
@@ -84,6 +86,10 @@ value-holds (number w) at s bytes h =
     subst (λ (k : ℕ). num (part s at w) < 256 ^ k) (length-part s at w h) (num-small (part s at w) (part-bytes s at w bytes))
 value-holds (text w) at s bytes h = (length-part s at w h, part-bytes s at w bytes)
 
+-- a field that ends within a layout stands in bytes that have room for the layout
+pub within : {end size n : ℕ} → T (leb end size) → size ≤ n → end ≤ n
+within t h = le-trans (lit≤ t) h
+
 -- what is read fits
 pub decode-fits : (fs : List Field) (at : ℕ) (s : List ℕ) → Bytes s → at + widthOf fs ≤ length s → Fits fs (decode fs at s)
 decode-fits [] at s bytes h = tt
@@ -119,6 +125,10 @@ puts-splice (f ∷ fs) (v ∷ vs) s at h room =
     let first = sized-first f v fs vs h in
     subst (λ (k : ℕ). behind fs vs (splice s at (bytesOf f v)) at k ≡ splice s at (bytesOf f v ++ encode fs vs)) (first .0)
     (behind-splice fs vs s at (bytesOf f v) (first .1) room)
+
+-- one put more: these bytes, put into what the puts before it made
+pub then : (at : ℕ) (bs : List ℕ) {s t u : List ℕ} → t ≡ s → u ≡ splice t at bs → u ≡ splice s at bs
+then at bs e d = d ∙ ap (λ (l : List ℕ). splice l at bs) e
 
 -- fields put one behind the other are the row put
 pub puts-row : (fs : List Field) (vs : List Value) (s : List ℕ) (at : ℕ) {t : List ℕ} → Sized fs vs → at ≤ length s → t ≡ puts fs vs s at → t ≡ putRow fs vs s at

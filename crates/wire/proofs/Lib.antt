@@ -4,3 +4,4 @@ pub mod Digits
 pub mod Layouts
 pub mod Place
 pub mod Splice
+mod Halves

@@ -1,13 +1,21 @@
 // Parts: what stands at a place. Sums go up from the lowest byte, so that each becomes one load.
 ghost use mathlib.Core.Path.{_≡_};
-ghost use Prim.Native.Nat.{_+_, _≤_};
-ghost use lib.ListN.{length};
+ghost use Prim.Native.Nat.{_+_, _<_, _≤_};
+ghost use lib.ListN.{getD, length};
 ghost use Rattle.wire.specs.Number.{num, part, Widened};
 
 fn wide(b: u8) -> u64
     ensures { λ r. ⌜ Widened b r ⌝ }
 {
     b as u64
+}
+
+// The k-th byte behind a place, widened: each byte of a wide number is one call.
+fn byte(s: &[u8], at: usize, k: usize) -> u64
+    requires { ⌜ at + k < length (now s) ⌝ }
+    ensures { λ r. ⌜ Widened (getD (now (s .entry)) (at + k) 0) r ⌝ }
+{
+    wide(s[at + k])
 }
 
 pub fn u8_at(s: &[u8], at: usize) -> u8
@@ -28,23 +36,20 @@ pub fn u32_at(s: &[u8], at: usize) -> u32
     requires { ⌜ at + 4 ≤ length (now s) ⌝ }
     ensures { λ r. ⌜ r ≡ num (part (now (s .entry)) at 4) ⌝ }
 {
-    (wide(s[at + 3])
-        + wide(s[at + 2]) * 256
-        + wide(s[at + 1]) * 65536
-        + wide(s[at]) * 16777216) as u32
+    (byte(s, at, 3) + byte(s, at, 2) * 256 + byte(s, at, 1) * 65536 + wide(s[at]) * 16777216) as u32
 }
 
 pub fn u64_at(s: &[u8], at: usize) -> u64
     requires { ⌜ at + 8 ≤ length (now s) ⌝ }
     ensures { λ r. ⌜ r ≡ num (part (now (s .entry)) at 8) ⌝ }
 {
-    wide(s[at + 7])
-        + wide(s[at + 6]) * 256
-        + wide(s[at + 5]) * 65536
-        + wide(s[at + 4]) * 16777216
-        + wide(s[at + 3]) * 4294967296
-        + wide(s[at + 2]) * 1099511627776
-        + wide(s[at + 1]) * 281474976710656
+    byte(s, at, 7)
+        + byte(s, at, 6) * 256
+        + byte(s, at, 5) * 65536
+        + byte(s, at, 4) * 16777216
+        + byte(s, at, 3) * 4294967296
+        + byte(s, at, 2) * 1099511627776
+        + byte(s, at, 1) * 281474976710656
         + wide(s[at]) * 72057594037927936
 }
 

@@ -33,14 +33,8 @@ pub fn put_u64(buf: &mut [u8], at: usize, n: u64)
     requires { ⌜ at + 8 ≤ length (now buf) ⌝ }
     ensures { λ _. ⌜ now (buf .exit) ≡ splice (now (buf .entry)) at (be 8 n) ⌝ }
 {
-    buf[at] = (n / 72057594037927936 % 256) as u8;
-    buf[at + 1] = (n / 281474976710656 % 256) as u8;
-    buf[at + 2] = (n / 1099511627776 % 256) as u8;
-    buf[at + 3] = (n / 4294967296 % 256) as u8;
-    buf[at + 4] = (n / 16777216 % 256) as u8;
-    buf[at + 5] = (n / 65536 % 256) as u8;
-    buf[at + 6] = (n / 256 % 256) as u8;
-    buf[at + 7] = (n % 256) as u8;
+    put_u32(buf, at, (n / 4294967296) as u32);
+    put_u32(buf, at + 4, (n % 4294967296) as u32);
 }
 
 pub fn put_text(buf: &mut [u8], at: usize, text: &[u8])

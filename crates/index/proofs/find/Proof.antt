@@ -1,40 +1,54 @@
 -- Each turn of the walk stands at a cell of the key's chain, with the key at no place from it on.
 -- Assumes nothing.
 use native.Mathlib.Omega.{arith}
-use Rattle.index.proofs.Walks.{Seeking, seek-head, seek-most, seek-none, seek-falls, seek-live, seek-found, seek-on}
+use lib.ListN.{getD, take}
+use Rattle.index.proofs.Walks.{Seeking, seek-key, is-last, seek-head, seek-most, seek-none, seek-falls, seek-live, seek-found, seek-on}
 use borrow.Author.Needs.{needs}
 use Rattle.index.proofs.find.Statement.{statement}
 use Rattle.index.proofs.find.Tie as tie
 
 abbrev Inv-loop : tie.InvT-loop
-Inv-loop index keys live key cell₀ cell = Seeking keys live key cell
+Inv-loop index keys live key cell₀ cell = Seeking (take live keys) live key (λ p. getD keys p 0) key cell
 
 abbrev μ-loop : tie.MeasureT-loop
 μ-loop index keys live key cell₀ cell = cell
 
 loop-holds : tie.Need-loop-holds Inv-loop μ-loop
-loop-holds c = seek-head _ _ _ _ _ (c .before .pre) (c .head .ensures .0)
+loop-holds c = seek-head (seek-key _ _ _ _ (c .before .pre)) _ (c .head .ensures .0)
 
 cast-at : tie.Need-cast-at Inv-loop μ-loop
-cast-at c = let most = seek-most _ _ _ _ _ (c .before .before .before .pre) (c .before .loop .inv) in omega arith
+cast-at c = let most = seek-most (seek-key _ _ _ _ (c .before .before .before .pre)) (c .before .loop .inv) in omega arith
 
 returns : tie.Need-returns Inv-loop μ-loop
-returns c = seek-none _ _ _ _ _ (c .before .before .before .before .pre) (c .before .before .loop .inv) (c .if1 .taken)
+returns c =
+    let x = c .before .before .before .before .pre in
+    is-last _ _ _ _ x (seek-none (seek-key _ _ _ _ x) (c .before .before .loop .inv) (c .if1 .taken))
 
 mul-if2 : tie.Need-mul-if2 Inv-loop μ-loop
-mul-if2 c = let l = seek-live _ _ _ _ _ (c .before .before .before .before .pre) (c .before .before .loop .inv) (c .if1 .left) in omega arith
+mul-if2 c =
+    let l = seek-live (seek-key _ _ _ _ (c .before .before .before .before .pre)) (c .before .before .loop .inv) (c .if1 .left) in
+    omega arith
 
 element-copy-out-if2 : tie.Need-element-copy-out-if2 Inv-loop μ-loop
-element-copy-out-if2 c = let l = seek-live _ _ _ _ _ (c .before .before .before .before .pre) (c .before .before .loop .inv) (c .if1 .left) in omega arith
+element-copy-out-if2 c =
+    let l = seek-live (seek-key _ _ _ _ (c .before .before .before .before .pre)) (c .before .before .loop .inv) (c .if1 .left) in
+    omega arith
 
 returns-2 : tie.Need-returns-2 Inv-loop μ-loop
-returns-2 c = seek-found _ _ _ _ _ (c .before .before .before .before .before .before .pre) (c .before .before .before .before .loop .inv) (c .before .before .if1 .left) (c .if2 .taken)
+returns-2 c =
+    let x = c .before .before .before .before .before .before .pre in
+    is-last _ _ _ _ x
+    (seek-found (seek-key _ _ _ _ x) (c .before .before .before .before .loop .inv) (c .before .before .if1 .left) (c .if2 .taken))
 
 loop-less : tie.Need-loop-less Inv-loop μ-loop
-loop-less c = seek-falls _ _ _ _ _ (c .before .before .before .before .before .before .pre) (c .before .before .before .before .loop .inv) (c .before .before .if1 .left)
+loop-less c =
+    seek-falls (seek-key _ _ _ _ (c .before .before .before .before .before .before .pre)) (c .before .before .before .before .loop .inv)
+    (c .before .before .if1 .left)
 
 loop-again : tie.Need-loop-again Inv-loop μ-loop
-loop-again c = seek-on _ _ _ _ _ (c .before .before .before .before .before .before .pre) (c .before .before .before .before .loop .inv) (c .before .before .if1 .left) (c .if2 .left)
+loop-again c =
+    seek-on (seek-key _ _ _ _ (c .before .before .before .before .before .before .pre)) (c .before .before .before .before .loop .inv)
+    (c .before .before .if1 .left) (c .if2 .left)
 
 pub find-spec : {M : Type 1} → statement M
 find-spec =

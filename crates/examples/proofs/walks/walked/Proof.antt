@@ -6,10 +6,10 @@ use Rattle.examples.proofs.walks.walked.Statement.{statement}
 use Rattle.examples.proofs.walks.walked.Tie as tie
 
 abbrev Inv-loop : tie.InvT-loop
-Inv-loop label s at₀ k₀ t6 at k = k ≤ 5
+Inv-loop label s at₀ k₀ at k = k ≤ 5
 
 abbrev μ-loop : tie.MeasureT-loop
-μ-loop label s at₀ k₀ t6 at k = 5 - k
+μ-loop label s at₀ k₀ at k = 5 - k
 
 pub walked-spec : {M : Type 1} → statement M
 walked-spec =
@@ -28,7 +28,6 @@ walked-spec =
     (λ c κs. search needs)
     (λ c κs. search needs)
     (λ c κs. search needs)
-    (λ c. search needs)
     (λ c. search needs)
     (λ c. search needs)
     (λ c. search needs)

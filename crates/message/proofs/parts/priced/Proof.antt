@@ -1,24 +1,34 @@
 -- The fields of an Execution with Price are the values of its row.
 -- Assumes nothing.
+use Rattle.wire.proofs.Layouts.{within}
 use Rattle.message.specs.Layouts.{layoutOf}
-use Rattle.message.specs.Row.{fieldsOf, messageOf}
-use borrow.Author.Needs.{needs}
+use Rattle.message.specs.Row.{fieldsOf}
+use Rattle.message.proofs.Opened.{priced}
 use Rattle.message.proofs.parts.priced.Statement.{statement}
 use Rattle.message.proofs.parts.priced.Tie as tie
 
 returns : tie.Need-returns
-unfolding fieldsOf messageOf layoutOf
-returns c = cc
+unfolding fieldsOf layoutOf
+returns c =
+    priced
+    _
+    (c .of-order .ensures)
+    (c .before .before .before .before .before .before .u32-at .ensures)
+    (c .before .before .before .before .before .text14-at .ensures)
+    (c .before .before .before .before .u32-at2 .ensures)
+    (c .before .before .before .u32-at3 .ensures)
+    (c .before .before .u64-at .ensures)
+    (c .before .u64-at2 .ensures)
 
 pub priced-spec : {M : Type 1} → statement M
 priced-spec =
     tie.close
     (tie.spec
-    (λ c κs. search needs)
-    (λ c κs. search needs)
-    (λ c κs. search needs)
-    (λ c κs. search needs)
-    (λ c κs. search needs)
-    (λ c κs. search needs)
-    (λ c κs. search needs)
+    (λ c κs. within tt (c .before .pre))
+    (λ c κs. within tt (c .before .before .pre))
+    (λ c κs. within tt (c .before .before .before .pre))
+    (λ c κs. within tt (c .before .before .before .before .pre))
+    (λ c κs. within tt (c .before .before .before .before .before .pre))
+    (λ c κs. within tt (c .before .before .before .before .before .before .pre))
+    (λ c κs. tt)
     returns)

@@ -1,42 +1,28 @@
--- `wire::put_u64` meets its contract: 8 stores are one splice.
+-- `wire::put_u64` meets its contract: its two halves, one behind the other, are the number.
 -- Assumes nothing.
-use native.Mathlib.Omega.{arith}
-use lib.ListN.{length-set}
-use Rattle.wire.proofs.Splice.{stored-splice}
-use Rattle.wire.specs.Number.{be}
 use borrow.Author.Needs.{needs}
+use Rattle.wire.proofs.Halves.{halves}
 use Rattle.wire.proofs.write.put_u64.Statement.{statement}
 use Rattle.wire.proofs.write.put_u64.Tie as tie
 
 returns : tie.Need-returns
-returns c = stored-splice (c .args .buf .now) (c .args .at) (be 8 (c .args .n)) (c .pre)
+returns c =
+    halves
+    (c .before .before .before .before .before .before .before .before .before .args .buf .now)
+    (c .before .before .before .before .before .before .before .before .before .args .at)
+    (c .before .before .before .before .before .before .before .before .before .args .n)
+    (c .before .before .before .before .before .before .before .before .before .pre)
+    (c .before .before .before .before .before .before .put-u32 .ensures)
+    (c .before .before .put-u322 .ensures)
 
 pub put-u64-spec : {M : Type 1} → statement M
 put-u64-spec =
     tie.close
     (tie.spec
     (λ c. search needs)
+    (λ c κs. search needs)
     (λ c. search needs)
     (λ c. search needs)
+    (λ c κs. search needs)
     (λ c. search needs)
-    (λ c. simp length-set (omega arith))
-    (λ c. search needs)
-    (λ c. search needs)
-    (λ c. simp length-set (omega arith))
-    (λ c. search needs)
-    (λ c. search needs)
-    (λ c. simp length-set (omega arith))
-    (λ c. search needs)
-    (λ c. search needs)
-    (λ c. simp length-set (omega arith))
-    (λ c. search needs)
-    (λ c. search needs)
-    (λ c. simp length-set (omega arith))
-    (λ c. search needs)
-    (λ c. search needs)
-    (λ c. simp length-set (omega arith))
-    (λ c. search needs)
-    (λ c. search needs)
-    (λ c. simp length-set (omega arith))
-    (λ c. simp length-set)
     returns)
