@@ -1,41 +1,70 @@
 -- The first that holds: another symbol or side, the first order, a better price, the same price.
 -- Assumes nothing.
-use mathlib.Core.Path.{_∙_, sym}
+use mathlib.Core.Path.{_≡_, _∙_, sym}
+use mathlib.Core.Logic.{_≢_}
+use mathlib.Core.Bool.{true, false}
+use mathlib.Core.List.{List}
+use Prim.Native.Nat.{ℕ, _≤_}
+use Prim.{tt}
+use native.Mathlib.Omega.{arith}
 use borrow.Author.Tests.{eq-eqb, ne-eqb, not-true, not-false}
-use Rattle.book.specs.Asking.{joined}
 use borrow.Author.Needs.{needs}
+use Rattle.book.specs.Asking.{alone, better, isOf, joined, together}
+use Rattle.book.specs.declared.asking.Level.{Level}
+use Rattle.book.specs.declared.tables.Order.{Order}
 use Rattle.book.proofs.asking.join.Statement.{statement}
 use Rattle.book.proofs.asking.join.Tie as tie
 
+module _ (symbol : List ℕ) (side : ℕ) (o : Order) (level : Level) where
+  other : isOf symbol side o ≡ false → level ≡ joined symbol side o level
+  unfolding joined
+  other h = simp h
+
+  module _ (h : isOf symbol side o ≡ true) where
+    first : level .orders ≡ 0 → alone o ≡ joined symbol side o level
+    unfolding joined
+    first e = simp (h, eq-eqb _ _ e)
+
+    module _ (n : level .orders ≢ 0) where
+      ahead : better side (o .price) (level .price) ≡ true → alone o ≡ joined symbol side o level
+      unfolding joined
+      ahead b = simp (h, ne-eqb _ _ n, b)
+
+      even : better side (o .price) (level .price) ≡ false → o .price ≡ level .price → together o level ≡ joined symbol side o level
+      unfolding joined
+      even b e = simp (h, ne-eqb _ _ n, b, eq-eqb _ _ e)
+
+      behind : better side (o .price) (level .price) ≡ false → o .price ≢ level .price → level ≡ joined symbol side o level
+      unfolding joined
+      behind b e = simp (h, ne-eqb _ _ n, b, ne-eqb _ _ e)
+
+most-of : (c : tie.Start) → c .args .order .shares ≤ 4294967295
+most-of c = omega arith
+
 returns : tie.Need-returns
-unfolding joined
-returns c = record { same = simp (sym (c .before .of .ensures) ∙ not-true _ (c .if1 .taken)); most = search needs }
+returns c = record { same = other _ _ _ _ (sym (c .before .of .ensures) ∙ not-true _ (c .if1 .taken)); most = most-of (c .before .before) }
 
 returns-2 : tie.Need-returns-2
-unfolding joined
-returns-2 c = record { same = simp (sym (c .before .before .before .before .of .ensures) ∙ not-false _ (c .before .before .before .if1 .left), eq-eqb _ _ (c .if2 .taken)); most = search needs }
+returns-2 c = record { same = first _ _ _ _ (sym (c .before .before .before .before .of .ensures) ∙ not-false _ (c .before .before .before .if1 .left)) (c .if2 .taken); most = most-of (c .before .before .before .before .before) }
 
 returns-3 : tie.Need-returns-3
-unfolding joined
-returns-3 c = record { same = simp (sym (c .before .before .before .before .before .before .of .ensures) ∙ not-false _ (c .before .before .before .before .before .if1 .left), ne-eqb _ _ (c .before .before .if2 .left), sym (c .before .better .ensures) ∙ c .if3 .taken); most = search needs }
+returns-3 c = record { same = ahead _ _ _ _ (sym (c .before .before .before .before .before .before .of .ensures) ∙ not-false _ (c .before .before .before .before .before .if1 .left)) (c .before .before .if2 .left) (sym (c .before .better .ensures) ∙ c .if3 .taken); most = most-of (c .before .before .before .before .before .before .before) }
 
 returns-4 : tie.Need-returns-4
-unfolding joined
-returns-4 c = record { same = simp (sym (c .before .before .before .before .before .before .before .before .before .before .before .before .of .ensures) ∙ not-false _ (c .before .before .before .before .before .before .before .before .before .before .before .if1 .left), ne-eqb _ _ (c .before .before .before .before .before .before .before .before .if2 .left), sym (c .before .before .before .before .before .before .before .better .ensures) ∙ c .before .before .before .before .before .before .if3 .left, eq-eqb _ _ (c .before .before .before .if4 .taken)); most = search needs }
+returns-4 c = record { same = even _ _ _ _ (sym (c .before .before .before .before .before .before .before .before .before .before .before .before .of .ensures) ∙ not-false _ (c .before .before .before .before .before .before .before .before .before .before .before .if1 .left)) (c .before .before .before .before .before .before .before .before .if2 .left) (sym (c .before .before .before .before .before .before .before .better .ensures) ∙ c .before .before .before .before .before .before .if3 .left) (c .before .before .before .if4 .taken); most = most-of (c .before .before .before .before .before .before .before .before .before .before .before .before .before) }
 
 returns-5 : tie.Need-returns-5
-unfolding joined
-returns-5 c = record { same = simp (sym (c .before .before .before .before .before .before .before .before .before .of .ensures) ∙ not-false _ (c .before .before .before .before .before .before .before .before .if1 .left), ne-eqb _ _ (c .before .before .before .before .before .if2 .left), sym (c .before .before .before .before .better .ensures) ∙ c .before .before .before .if3 .left, ne-eqb _ _ (c .if4 .left)); most = search needs }
+returns-5 c = record { same = behind _ _ _ _ (sym (c .before .before .before .before .before .before .before .before .before .of .ensures) ∙ not-false _ (c .before .before .before .before .before .before .before .before .if1 .left)) (c .before .before .before .before .before .if2 .left) (sym (c .before .before .before .before .better .ensures) ∙ c .before .before .before .if3 .left) (c .if4 .left); most = most-of (c .before .before .before .before .before .before .before .before .before .before) }
 
 pub join-spec : {M : Type 1} → statement M
 join-spec =
     tie.close
     (tie.spec
-    (λ c κs. search needs)
+    (λ c κs. tt)
     returns
     (λ c. search needs)
     returns-2
-    (λ c κs. search needs)
+    (λ c κs. tt)
     returns-3
     (λ c. search needs)
     (λ c. search needs)
