@@ -1,5 +1,8 @@
 // Which command a line is: by its first word and its count of words.
 use text::words;
+ghost use mathlib.Core.Path.{_≡_};
+ghost use Rattle.text.specs.Words.{countOf, wordOf};
+ghost use Rattle.desk.specs.Commands.{bytesCommand, commandOf, isName, namedOf, oneCommand};
 
 pub enum Command {
     Bad,
@@ -18,7 +21,9 @@ pub enum Command {
     Walk,
 }
 
-pub fn of(line: &[u8]) -> Command {
+pub fn of(line: &[u8]) -> Command
+    ensures { λ r. ⌜ r ≡ commandOf (countOf (now (line .entry))) (wordOf (now (line .entry)) 0) ⌝ }
+{
     let word = words::word(line, 0);
     match words::count(line) {
         1 => named(word, b"state", Command::State),
@@ -30,42 +35,54 @@ pub fn of(line: &[u8]) -> Command {
     }
 }
 
-fn named(word: &[u8], name: &[u8], command: Command) -> Command {
-    if check::same(word, name) {
+fn is(word: &[u8], name: &[u8]) -> bool
+    ensures { λ r. ⌜ r ≡ isName (now (word .entry)) (now (name .entry)) ⌝ }
+{
+    check::same(word, name)
+}
+
+fn named(word: &[u8], name: &[u8], command: Command) -> Command
+    ensures { λ r. ⌜ r ≡ namedOf (now (word .entry)) (now (name .entry)) command ⌝ }
+{
+    if is(word, name) {
         return command;
     }
     Command::Bad
 }
 
 // The commands of one word more.
-fn of_one(word: &[u8]) -> Command {
-    if check::same(word, b"open") {
+fn of_one(word: &[u8]) -> Command
+    ensures { λ r. ⌜ r ≡ oneCommand (now (word .entry)) ⌝ }
+{
+    if is(word, b"open") {
         return Command::Open;
     }
-    if check::same(word, b"take") {
+    if is(word, b"take") {
         return Command::Take;
     }
-    if check::same(word, b"order") {
+    if is(word, b"order") {
         return Command::Order;
     }
-    if check::same(word, b"inside") {
+    if is(word, b"inside") {
         return Command::Inside;
     }
-    if check::same(word, b"requests") {
+    if is(word, b"requests") {
         return Command::Requests;
     }
     of_bytes(word)
 }
 
 // Those that need no session.
-fn of_bytes(word: &[u8]) -> Command {
-    if check::same(word, b"value") {
+fn of_bytes(word: &[u8]) -> Command
+    ensures { λ r. ⌜ r ≡ bytesCommand (now (word .entry)) ⌝ }
+{
+    if is(word, b"value") {
         return Command::Value;
     }
-    if check::same(word, b"header") {
+    if is(word, b"header") {
         return Command::Header;
     }
-    if check::same(word, b"message") {
+    if is(word, b"message") {
         return Command::Message;
     }
     named(word, b"walk", Command::Walk)

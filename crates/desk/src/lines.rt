@@ -1,7 +1,9 @@
 // The lines of standard input.
 use text::input;
+ghost use mathlib.Core.Path.{_≡_};
 ghost use Prim.Native.Nat.{_+_, _-_, _≤_};
 ghost use lib.ListN.{length};
+ghost use Rattle.desk.specs.Commands.{isNone};
 ghost use Rattle.desk.specs.Lines.{Lies};
 
 // The longest line, its line feed not counted.
@@ -104,7 +106,9 @@ fn kept_of(long: bool, count: usize) -> usize
     count
 }
 
-pub fn is_none(kind: Kind) -> bool {
+pub fn is_none(kind: Kind) -> bool
+    ensures { λ r. ⌜ r ≡ isNone kind ⌝ }
+{
     match kind {
         Kind::Nothing => true,
         _ => false,

@@ -8,6 +8,7 @@ use text::output;
 use text::words;
 ghost use Prim.Native.Nat.{_≤_};
 ghost use lib.ListN.{length};
+ghost use Rattle.desk.specs.Commands.{TextOf};
 
 // More bytes than a line's hex can stand for.
 pub const LENT: usize = 4096;
@@ -18,7 +19,9 @@ pub struct Text {
     pub text: [u8; 14],
 }
 
-pub fn text_of(word: &[u8]) -> Text {
+pub fn text_of(word: &[u8]) -> Text
+    ensures { λ r. ⌜ TextOf (now (word .entry)) r ⌝ }
+{
     let mut text = [0u8; 14];
     let got = hex::parse(word, &mut text);
     Text {

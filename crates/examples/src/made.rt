@@ -7,12 +7,16 @@ use session::packets;
 use session::packets::Taken;
 use session::state::Session;
 use writing::Written;
+ghost use mathlib.Core.Path.{_≡_};
 ghost use Prim.Native.Nat.{_≤_};
 ghost use lib.ListN.{length};
 ghost use Rattle.session.specs.Meaning.{Ruled};
+ghost use Rattle.examples.specs.Made.{addOf, deleteOf, executionOf, idOf, namedOf, noMessage, symbolOf, topOf, tradingOf, updateOf};
 
 // The id of the k-th order: its value is below 1,000 in base 36 with decimal digits.
-pub fn id_of(k: u16) -> [u8; 14] {
+pub fn id_of(k: u16) -> [u8; 14]
+    ensures { λ r. ⌜ r ≡ idOf k ⌝ }
+{
     let mut id = *b"00000000000000";
     id[9] = (48 + k / 100 % 10) as u8;
     id[10] = (48 + k / 10 % 10) as u8;
@@ -20,14 +24,18 @@ pub fn id_of(k: u16) -> [u8; 14] {
     id
 }
 
-pub fn symbol_of(k: u16) -> [u8; 14] {
+pub fn symbol_of(k: u16) -> [u8; 14]
+    ensures { λ r. ⌜ r ≡ symbolOf k ⌝ }
+{
     let mut symbol = *b"ABCD0         ";
     symbol[5] = (65 + k / 10 % 10) as u8;
     symbol[6] = (65 + k % 10) as u8;
     symbol
 }
 
-pub fn add(k: u16, side: u8, quantity: u32, price: u64) -> Message {
+pub fn add(k: u16, side: u8, quantity: u32, price: u64) -> Message
+    ensures { λ r. ⌜ r ≡ addOf k side quantity price ⌝ }
+{
     let body = Body::Add {
         time: 1,
         side,
@@ -47,7 +55,9 @@ pub fn add(k: u16, side: u8, quantity: u32, price: u64) -> Message {
     }
 }
 
-pub fn update(k: u16, quantity: u32, price: u64) -> Message {
+pub fn update(k: u16, quantity: u32, price: u64) -> Message
+    ensures { λ r. ⌜ r ≡ updateOf k quantity price ⌝ }
+{
     let body = Body::Update {
         time: 1,
         quantity,
@@ -57,11 +67,15 @@ pub fn update(k: u16, quantity: u32, price: u64) -> Message {
     named(k, body)
 }
 
-pub fn delete(k: u16) -> Message {
+pub fn delete(k: u16) -> Message
+    ensures { λ r. ⌜ r ≡ deleteOf k ⌝ }
+{
     named(k, Body::Delete { time: 1 })
 }
 
-pub fn execution(k: u16, executed: u32, remaining: u32) -> Message {
+pub fn execution(k: u16, executed: u32, remaining: u32) -> Message
+    ensures { λ r. ⌜ r ≡ executionOf k executed remaining ⌝ }
+{
     let terms = Terms::Published;
     let body = Body::Execution {
         time: 1,
@@ -73,7 +87,9 @@ pub fn execution(k: u16, executed: u32, remaining: u32) -> Message {
     named(k, body)
 }
 
-pub fn trading(code: u8) -> Message {
+pub fn trading(code: u8) -> Message
+    ensures { λ r. ⌜ r ≡ tradingOf code ⌝ }
+{
     let body = Body::TradingSession {
         time: 1,
         session: code,
@@ -82,11 +98,15 @@ pub fn trading(code: u8) -> Message {
 }
 
 // A message that is not written: nothing more.
-pub fn none() -> Message {
+pub fn none() -> Message
+    ensures { λ r. ⌜ r ≡ noMessage ⌝ }
+{
     named(0, Body::Other(0))
 }
 
-fn named(k: u16, body: Body) -> Message {
+fn named(k: u16, body: Body) -> Message
+    ensures { λ r. ⌜ r ≡ namedOf k body ⌝ }
+{
     let id = id_of(k);
     let symbol = [0u8; 14];
     let firm = [0u8; 4];
@@ -98,7 +118,9 @@ fn named(k: u16, body: Body) -> Message {
     }
 }
 
-pub fn top(k: u16, ask: u64, bid: u64) -> Message {
+pub fn top(k: u16, ask: u64, bid: u64) -> Message
+    ensures { λ r. ⌜ r ≡ topOf k ask bid ⌝ }
+{
     let body = Body::Top {
         time: 1,
         ask,

@@ -6,8 +6,10 @@ use crate::messages;
 use crate::writes;
 use text::number;
 use text::words;
-ghost use Prim.Native.Nat.{_≤_};
+ghost use mathlib.Core.Path.{_≡_};
+ghost use Prim.Native.Nat.{_-_, _≤_};
 ghost use lib.ListN.{length};
+ghost use Rattle.examples.specs.Lines.{Finds, labelOf, valueOf};
 
 // What the lines of a table are cases of.
 pub enum Table {
@@ -43,7 +45,7 @@ fn row(table: Table, line: &[u8]) {
 // The first such byte from a place on, or the end.
 pub fn find(s: &[u8], from: usize, byte: u8) -> usize
     requires { ⌜ from ≤ length (now s) ⌝ }
-    ensures { λ r. ⌜ (from ≤ r) × (r ≤ length (now (s .entry))) ⌝ }
+    ensures { λ r. ⌜ Finds (now (s .entry)) from byte r ⌝ }
 {
     let mut k = from;
     while k < s.len() {
@@ -56,25 +58,31 @@ pub fn find(s: &[u8], from: usize, byte: u8) -> usize
 }
 
 // What stands before the bar and its space.
-pub fn label(line: &[u8]) -> &[u8] {
+pub fn label(line: &[u8]) -> &[u8]
+    ensures { λ r. ⌜ now r ≡ labelOf (now (line .entry)) ⌝ }
+{
     let end = before(find(line, 0, b'|'));
     &line[0..end]
 }
 
 fn before(place: usize) -> usize
-    ensures { λ r. ⌜ r ≤ place ⌝ }
+    ensures { λ r. ⌜ (r ≡ place - 1) × (r ≤ place) ⌝ }
 {
     if 0 < place { place - 1 } else { 0 }
 }
 
 // The k-th number behind the bar, 0 where there is none.
-pub fn number(line: &[u8], k: u8) -> u64 {
+pub fn number(line: &[u8], k: u8) -> u64
+    ensures { λ r. ⌜ r ≡ valueOf (now (line .entry)) k ⌝ }
+{
     let bar = find(line, 0, b'|');
     let parsed = number::parse(words::word(&line[bar..], k as usize + 1), u64::MAX);
     parsed.value
 }
 
 // A number that is a place or a length.
-pub fn place(line: &[u8], k: u8) -> usize {
+pub fn place(line: &[u8], k: u8) -> usize
+    ensures { λ r. ⌜ r ≡ valueOf (now (line .entry)) k ⌝ }
+{
     number(line, k) as usize
 }

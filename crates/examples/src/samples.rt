@@ -1,10 +1,13 @@
 // A good message of each type: what the cases start from.
+ghost use mathlib.Core.Path.{_≡_};
 ghost use Prim.Native.Nat.{_≤_};
 ghost use lib.ListN.{length};
 
 // The types 9, 11, 12 and 20 to 28, one behind the other, as a packet carries them: each tells its
 // size and its type.
-pub fn all() -> [u8; 376] {
+pub fn all() -> [u8; 376]
+    ensures { λ r. ⌜ length r ≡ 376 ⌝ }
+{
     *b"\x00$\x09MSFTF         \x00\x00\x01\x9AG\x03t\x00\x02\x01\x00\x01\x11q\x00\x01\x00AA\
     \x00\x10\x0B\x01\x00\x00\x01\x9AG\x03t\x00\x00\x00\x00\x00\
     \x00\x14\x0C\x01\x00\x00\x00\x04\x00\x00\x01\x9AG\x03t\x00\x00\x00\x00\x04\
@@ -54,7 +57,9 @@ fn start_of(s: &[u8], kind: u8) -> usize
 }
 
 // The message of a type among those.
-pub fn of_type(s: &[u8], kind: u64) -> &[u8] {
+pub fn of_type(s: &[u8], kind: u64) -> &[u8]
+    ensures { λ r. ⌜ length (now r) ≤ length (now (s .entry)) ⌝ }
+{
     let start = start_of(s, (kind % 256) as u8);
     let end = end_of(s, start);
     &s[start..end]
