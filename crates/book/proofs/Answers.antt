@@ -14,7 +14,7 @@ use Rattle.fields.specs.Rules.{goodSymbol, goodSide}
 use Rattle.fields.specs.declared.id.IdValue.{IdValue}
 use Rattle.fields.specs.declared.id.IdValue.the-variants.{Value, Refused}
 use Rattle.fields.proofs.Ids.{accepted-good}
-use Rattle.book.specs.Lookup.{isAt, spotOf, frontOf, backOf, keyAt, symbolAt}
+use Rattle.book.specs.Lookup.{isAt, placeFound, frontOf, backOf, keyAt, symbolAt}
 use Rattle.book.specs.Tables.{blank, gone, noInside, idsOf, frontsOf, backsOf, view}
 use Rattle.book.specs.Rule.{Kept}
 use Rattle.book.specs.Asking.{noOrderFor, orderAsked, noInsideFor, insideAsked, better, isOf, alone, joined, bestIn, noLevel, noLevelFor, bestAsked, Room}
@@ -29,10 +29,10 @@ use Rattle.book.specs.declared.asking.OrderReply.{OrderReply}
 use Rattle.book.specs.declared.asking.InsideReply.{InsideReply}
 use Rattle.book.specs.declared.asking.BestReply.{BestReply}
 use Rattle.book.proofs.Carrying.{live-is, held-is, keys-are, insides-are, fronts-are, backs-are, order-at}
-use Rattle.book.proofs.Finding.{key-below, symbol-below}
 use Rattle.book.proofs.Holding.{get-places}
 use Rattle.book.proofs.Steps.{front-keys}
 use Rattle.book.proofs.Types.{pick, answer-value}
+use Rattle.book.proofs.Under.{key-below, symbol-below}
 
 module _ (b : Book) (kept : Kept b) where
   -- ---- by order id
@@ -62,7 +62,7 @@ module _ (b : Book) (kept : Kept b) where
             let e : keyAt (numberOf id) (idsOf (view b .orders)) ≡ At place = order-found ∙ at in
             let r = key-below (numberOf id) (idsOf (view b .orders)) (ap isAt e) in
             let l : length (idsOf (view b .orders)) ≡ b .live = length-map (view b .orders) (λ o. o .id) ∙ sym (live-is b (kept .same)) in
-            subst (λ (n : ℕ). place < n) l (subst (λ (f : Found). spotOf f < length (idsOf (view b .orders))) e r)
+            subst (λ (n : ℕ). place < n) l (subst (λ (f : Found). placeFound f < length (idsOf (view b .orders))) e r)
 
         pub order-known : _≡_ {A = OrderReply} (record { reply = Known; order = getD (b .orders) place blank }) (orderAsked (view b) id)
         unfolding orderAsked
@@ -95,9 +95,8 @@ module _ (b : Book) (kept : Kept b) where
         pub inside-within : place < b .held
         inside-within =
             let e : symbolAt symbol (frontsOf xs) (backsOf xs) ≡ At place = inside-found ∙ at in
-            let r = symbol-below symbol (frontsOf xs) (backsOf xs) (ap isAt e) in
-            let l : length (frontsOf xs) ≡ b .held = length-map xs (λ i. frontOf (i .symbol)) ∙ sym (held-is b (kept .same)) in
-            subst (λ (n : ℕ). place < n) l (subst (λ (f : Found). spotOf f < length (frontsOf xs)) e r)
+            let r = symbol-below symbol xs (ap isAt e) in
+            rw (held-is b (kept .same)) (subst (λ (f : Found). placeFound f < length xs) e r)
 
         inside-at : getD (b .insides) place gone ≡ getD xs place gone
         inside-at =

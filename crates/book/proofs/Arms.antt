@@ -2,102 +2,112 @@
 -- Assumes nothing.
 use mathlib.Core.Path.{_≡_, refl, ap, _∙_, sym, subst}
 use mathlib.Core.Logic.{_≢_}
-use mathlib.Core.Bool.{Bool, cond, not, _&&_, and-true}
+use mathlib.Core.Bool.{Bool, cond, not, _&&_}
 use mathlib.Core.List.{List, [], _∷_}
 use Prim.Native.Nat.{ℕ, _-_}
 use borrow.Author.Tests.{ne-eqb}
 use lib.Dec.{eqb, leb, ltb}
 use Rattle.wire.specs.Choice.{firstOf}
-use Rattle.wire.specs.Number.{num, part}
-use Rattle.fields.specs.Id.{noValue, numberOf}
+use Rattle.wire.specs.Number.{part}
+use Rattle.fields.specs.Id.{goodId, isValue, numberOf}
 use Rattle.fields.specs.Rules.{goodSymbol, goodSide, goodTradeSide, goodQuantity, goodPrice, goodInsidePrice, goodUnsolicited, goodSession}
+use Rattle.message.specs.Layouts as layouts
 use Rattle.message.specs.Layouts.{layoutOf, typeIn}
-use Rattle.message.specs.Row.{fieldsOf, messageOf}
-use Rattle.message.specs.Rules.{goodBody, goodTerms}
+use Rattle.message.specs.Row.{fieldsOf, messageOf, rowIn, addIn, executionIn, pricedIn, topIn, tradeIn, tradingSessionIn, updateIn}
+use Rattle.message.specs.Rules.{brokenBy, brokenOf}
 use Rattle.message.specs.Table.{payloadOf}
 use Rattle.message.specs.declared.kinds.Message.{Message}
+use Rattle.message.specs.declared.layouts.AddFields.{AddFields}
+use Rattle.message.specs.declared.layouts.ExecutionFields.{ExecutionFields}
+use Rattle.message.specs.declared.layouts.PricedFields.{PricedFields}
+use Rattle.message.specs.declared.layouts.TopFields.{TopFields}
+use Rattle.message.specs.declared.layouts.TradeFields.{TradeFields}
+use Rattle.message.specs.declared.layouts.TradingSessionFields.{TradingSessionFields}
+use Rattle.message.specs.declared.layouts.UpdateFields.{UpdateFields}
+use Rattle.fields.proofs.Ids.{value-good}
 use Rattle.message.proofs.Cases.{Unopened, unopened}
-use Rattle.book.specs.Lookup.{isAt, spotOf}
+use Rattle.book.specs.Lookup.{isAt, placeFound}
 use Rattle.book.specs.Applying.{messageIn, effectOf, executionOf}
 use Rattle.book.specs.declared.deciding.Seen.{Seen}
 use Rattle.book.specs.declared.deciding.Effect.{Effect}
 use Rattle.book.specs.declared.deciding.Effect.the-variants.{Put, Replace, Remove, Renew, Enter, Record, Unchanged, Fault}
-use Rattle.book.proofs.Types.{key-good}
 
 module _ (s : List ℕ) (seen : Seen) where
-  pub session-is : {session : ℕ} {good : Bool} → good ≡ goodSession session → session ≡ num (part s 11 1)
-      → firstOf ((not good, Fault 2) ∷ []) (Record session) ≡ effectOf seen (fieldsOf 20 s)
-  unfolding effectOf fieldsOf messageOf layoutOf payloadOf goodBody
-  session-is g e = rw (g, e)
+  pub session-is : {fields : TradingSessionFields} {broken : ℕ} → fields ≡ tradingSessionIn (rowIn layouts.tradingSession s) → broken ≡ brokenBy 20 (goodSession (fields .session) ∷ [])
+      → firstOf ((not (eqb broken 0), Fault 2) ∷ []) (Record (fields .session)) ≡ effectOf seen (fieldsOf 20 s)
+  unfolding effectOf fieldsOf messageOf layoutOf payloadOf brokenOf
+  session-is read b = rw (b, read)
 
-  pub trade-is : {side quantity price : ℕ} {symbol : List ℕ} {good : Bool} → good ≡ (goodTradeSide side && goodQuantity quantity && goodSymbol symbol && goodPrice price)
-      → side ≡ num (part s 7 1) → quantity ≡ num (part s 8 4) → symbol ≡ part s 12 14 → price ≡ num (part s 26 8)
-      → firstOf ((not good, Fault 2) ∷ []) Unchanged ≡ effectOf seen (fieldsOf 27 s)
-  unfolding effectOf fieldsOf messageOf layoutOf payloadOf goodBody
-  trade-is g e₁ e₂ e₃ e₄ = rw (g, e₁, e₂, e₃, e₄)
+  pub trade-is : {fields : TradeFields} {broken : ℕ} → fields ≡ tradeIn (rowIn layouts.trade s)
+      → broken ≡ brokenBy 27 (goodTradeSide (fields .side) ∷ goodQuantity (fields .quantity) ∷ goodSymbol (fields .symbol) ∷ goodPrice (fields .price) ∷ [])
+      → firstOf ((not (eqb broken 0), Fault 2) ∷ []) Unchanged ≡ effectOf seen (fieldsOf 27 s)
+  unfolding effectOf fieldsOf messageOf layoutOf payloadOf brokenOf
+  trade-is read b = rw (b, read)
 
-  pub top-is : {ask bid unsolicited : ℕ} {symbol : List ℕ} {good : Bool} → good ≡ (goodSymbol symbol && goodInsidePrice ask && goodInsidePrice bid && goodUnsolicited unsolicited)
-      → symbol ≡ part s 7 14 → ask ≡ num (part s 21 8) → bid ≡ num (part s 33 8) → unsolicited ≡ num (part s 45 1)
-      → firstOf ((not good, Fault 2) ∷ (not (isAt (seen .inside)) && leb 64 (seen .held), Fault 8) ∷ []) (cond (isAt (seen .inside)) (Renew (spotOf (seen .inside))) Enter)
+  pub top-is : {fields : TopFields} {broken : ℕ} → fields ≡ topIn (rowIn layouts.top s)
+      → broken ≡ brokenBy 26 (goodSymbol (fields .symbol) ∷ goodInsidePrice (fields .ask) ∷ goodInsidePrice (fields .bid) ∷ goodUnsolicited (fields .unsolicited) ∷ [])
+      → firstOf ((not (eqb broken 0), Fault 2) ∷ (not (isAt (seen .inside)) && leb 64 (seen .held), Fault 8) ∷ []) (cond (isAt (seen .inside)) (Renew (placeFound (seen .inside))) Enter)
       ≡ effectOf seen (fieldsOf 26 s)
-  unfolding effectOf fieldsOf messageOf layoutOf payloadOf goodBody
-  top-is g e₁ e₂ e₃ e₄ = rw (g, e₁, e₂, e₃, e₄)
+  unfolding effectOf fieldsOf messageOf layoutOf payloadOf brokenOf
+  top-is read b = rw (b, read)
 
   -- 21 to 25: an id is good exactly where it has a value
-  module _ {key : ℕ} (named : key ≡ numberOf (part s 7 14)) where
-    pub add-is : {side quantity price unsolicited : ℕ} {symbol : List ℕ} {good : Bool}
-        → good ≡ (not (eqb key noValue) && goodSide side && goodQuantity quantity && goodSymbol symbol && goodPrice price && goodUnsolicited unsolicited)
-        → side ≡ num (part s 21 1) → quantity ≡ num (part s 22 4) → symbol ≡ part s 26 14 → price ≡ num (part s 40 8) → unsolicited ≡ num (part s 52 1)
-        → firstOf ((not good, Fault 2) ∷ (isAt (seen .order), Fault 3) ∷ (leb 256 (seen .live), Fault 4) ∷ []) Put ≡ effectOf seen (fieldsOf 21 s)
-    unfolding effectOf fieldsOf messageOf layoutOf payloadOf goodBody
-    add-is g e₁ e₂ e₃ e₄ e₅ = rw (g, key-good _ named, e₁, e₂, e₃, e₄, e₅)
+  module _ {key : ℕ} (value : key ≡ numberOf (part s 7 14)) {named : Bool} (asked : named ≡ isValue key) where
+    named-good : named ≡ goodId (part s 7 14)
+    named-good = asked ∙ value-good (part s 7 14) value
 
-    pub update-is : {quantity price : ℕ} {good : Bool} → good ≡ (not (eqb key noValue) && goodQuantity quantity && goodPrice price)
-        → quantity ≡ num (part s 21 4) → price ≡ num (part s 25 8)
-        → firstOf ((not good, Fault 2) ∷ (not (isAt (seen .order)), Fault 5) ∷ []) (Replace (spotOf (seen .order)) quantity price) ≡ effectOf seen (fieldsOf 22 s)
-    unfolding effectOf fieldsOf messageOf layoutOf payloadOf goodBody
-    update-is g e₁ e₂ = rw (g, key-good _ named, e₁, e₂)
+    pub add-is : {fields : AddFields} {broken : ℕ} → fields ≡ addIn (rowIn layouts.add s)
+        → broken ≡ brokenBy 21 (named ∷ goodSide (fields .side) ∷ goodQuantity (fields .quantity) ∷ goodSymbol (fields .symbol) ∷ goodPrice (fields .price) ∷ goodUnsolicited (fields .unsolicited) ∷ [])
+        → firstOf ((not (eqb broken 0), Fault 2) ∷ (isAt (seen .order), Fault 3) ∷ (leb 256 (seen .live), Fault 4) ∷ []) Put ≡ effectOf seen (fieldsOf 21 s)
+    unfolding effectOf fieldsOf messageOf layoutOf payloadOf brokenOf
+    add-is read b = rw (b, named-good, read)
 
-    pub delete-is : {good : Bool} → good ≡ not (eqb key noValue)
-        → firstOf ((not good, Fault 2) ∷ (not (isAt (seen .order)), Fault 5) ∷ []) (Remove (spotOf (seen .order))) ≡ effectOf seen (fieldsOf 23 s)
-    unfolding effectOf fieldsOf messageOf layoutOf payloadOf goodBody
-    delete-is g = rw (g, key-good _ named)
+    pub update-is : {fields : UpdateFields} {broken : ℕ} → fields ≡ updateIn (rowIn layouts.update s)
+        → broken ≡ brokenBy 22 (named ∷ goodQuantity (fields .quantity) ∷ goodPrice (fields .price) ∷ [])
+        → firstOf ((not (eqb broken 0), Fault 2) ∷ (not (isAt (seen .order)), Fault 5) ∷ []) (Replace (placeFound (seen .order)) (fields .quantity) (fields .price)) ≡ effectOf seen (fieldsOf 22 s)
+    unfolding effectOf fieldsOf messageOf layoutOf payloadOf brokenOf
+    update-is read b = rw (b, named-good, read)
 
-    abbrev judged : Bool → ℕ → ℕ → Effect
-    judged good executed remaining =
+    pub delete-is : {broken : ℕ} → broken ≡ brokenBy 23 (named ∷ [])
+        → firstOf ((not (eqb broken 0), Fault 2) ∷ (not (isAt (seen .order)), Fault 5) ∷ []) (Remove (placeFound (seen .order))) ≡ effectOf seen (fieldsOf 23 s)
+    unfolding effectOf fieldsOf messageOf layoutOf payloadOf brokenOf
+    delete-is b = rw (b, named-good)
+
+    abbrev judged : ℕ → ℕ → ℕ → Effect
+    judged broken executed remaining =
         firstOf
-        ((not good, Fault 2)
+        ((not (eqb broken 0), Fault 2)
         ∷ (not (isAt (seen .order)), Fault 5)
         ∷ (ltb (seen .shares) executed, Fault 6)
         ∷ (not (eqb remaining (seen .shares - executed)), Fault 7)
         ∷ [])
         (executionOf seen executed)
 
-    pub execution-is : {executed remaining : ℕ} {good : Bool} → good ≡ (not (eqb key noValue) && goodQuantity executed)
-        → executed ≡ num (part s 21 4) → remaining ≡ num (part s 25 4) → judged good executed remaining ≡ effectOf seen (fieldsOf 24 s)
-    unfolding effectOf fieldsOf messageOf layoutOf payloadOf goodBody goodTerms
-    execution-is g e₁ e₂ = rw (g, key-good _ named, e₁, e₂, and-true)
+    pub execution-is : {fields : ExecutionFields} {broken : ℕ} → fields ≡ executionIn (rowIn layouts.execution s)
+        → broken ≡ brokenBy 24 (named ∷ goodQuantity (fields .executed) ∷ []) → judged broken (fields .executed) (fields .remaining) ≡ effectOf seen (fieldsOf 24 s)
+    unfolding effectOf fieldsOf messageOf layoutOf payloadOf brokenOf
+    execution-is read b = rw (b, named-good, read)
 
-    pub priced-is : {executed remaining price : ℕ} {good : Bool} → good ≡ (not (eqb key noValue) && goodQuantity executed && goodPrice price)
-        → executed ≡ num (part s 21 4) → remaining ≡ num (part s 25 4) → price ≡ num (part s 37 8) → judged good executed remaining ≡ effectOf seen (fieldsOf 25 s)
-    unfolding effectOf fieldsOf messageOf layoutOf payloadOf goodBody goodTerms
-    priced-is g e₁ e₂ e₃ = rw (g, key-good _ named, e₁, e₂, e₃)
+    pub priced-is : {fields : PricedFields} {broken : ℕ} → fields ≡ pricedIn (rowIn layouts.priced s)
+        → broken ≡ brokenBy 25 (named ∷ goodQuantity (fields .executed) ∷ goodPrice (fields .price) ∷ []) → judged broken (fields .executed) (fields .remaining) ≡ effectOf seen (fieldsOf 25 s)
+    unfolding effectOf fieldsOf messageOf layoutOf payloadOf brokenOf
+    priced-is read b = rw (b, named-good, read)
 
   -- the types that change nothing
   pub quiet-9 : Unchanged ≡ effectOf seen (fieldsOf 9 s)
-  unfolding effectOf fieldsOf messageOf layoutOf payloadOf goodBody
+  unfolding effectOf fieldsOf messageOf layoutOf payloadOf brokenOf
   quiet-9 = refl
 
   pub quiet-11 : Unchanged ≡ effectOf seen (fieldsOf 11 s)
-  unfolding effectOf fieldsOf messageOf layoutOf payloadOf goodBody
+  unfolding effectOf fieldsOf messageOf layoutOf payloadOf brokenOf
   quiet-11 = refl
 
   pub quiet-12 : Unchanged ≡ effectOf seen (fieldsOf 12 s)
-  unfolding effectOf fieldsOf messageOf layoutOf payloadOf goodBody
+  unfolding effectOf fieldsOf messageOf layoutOf payloadOf brokenOf
   quiet-12 = refl
 
   pub quiet-28 : Unchanged ≡ effectOf seen (fieldsOf 28 s)
-  unfolding effectOf fieldsOf messageOf layoutOf payloadOf goodBody
+  unfolding effectOf fieldsOf messageOf layoutOf payloadOf brokenOf
   quiet-28 = refl
 
   -- a type that is known

@@ -16,8 +16,7 @@ use Rattle.book.specs.Tables.{Tables}
 use Rattle.book.specs.declared.asking.Reply.the-variants.{Known}
 use Rattle.book.specs.declared.tables.Order.{Order}
 use Rattle.book.specs.declared.asking.Level.{Level}
-use Rattle.book.proofs.Finding.{no}
-use Rattle.book.proofs.Types.{pick, split}
+use Rattle.book.proofs.Types.{no, pick, split}
 
 -- ---- prices
 

@@ -6,14 +6,17 @@ use Prim.Native.Nat.{ℕ, _+_, _-_, _≤_, _<_}
 use native.Mathlib.Omega.{arith}
 use lib.ListN.{length, getD, set, length-map, length-set}
 use lib.Seq.{map-set-same, getD-set-same, set-set}
+use Rattle.book_index.specs.Changes.{without}
+use Rattle.book_index.proofs.Laws.{map-without}
+use Rattle.book_index.proofs.Moves.{length-without}
 use Rattle.book.specs.Lookup.{frontOf, backOf}
-use Rattle.book.specs.Tables.{blank, noOrder, noInside, places, idsOf, frontsOf, backsOf, rep, view}
-use Rattle.book.specs.Applying.{without, repriced, withOrders, withInsides}
+use Rattle.book.specs.Tables.{withOrders, withInsides, withCode, withFaults, blank, gone, noOrder, noInside, places, idsOf, frontsOf, backsOf, holdingOrders, holdingInsides, holdingMarks, rep, view}
+use Rattle.book.specs.Applying.{repriced}
 use Rattle.book.specs.declared.tables.Order.{Order}
 use Rattle.book.specs.declared.tables.Inside.{Inside}
 use Rattle.book.specs.declared.tables.Faults.{Faults}
 use Rattle.book.specs.declared.tables.Book.{Book}
-use Rattle.book.proofs.Holding.{put-places, set-places, get-places, leave-places, map-put, map-leave, length-put, length-leave}
+use Rattle.book.proofs.Holding.{put-places, set-places, get-places, leave-places, map-put, length-put}
 
 abbrev idOf : Order → ℕ
 idOf o = o .id
@@ -70,17 +73,15 @@ module _ (b : Book) (same : b ≡ rep (view b)) where
   -- a book with other orders, or with other insides, beside what it had
   ordered : {orders : List Order} {keys : List ℕ} {live : ℕ} (new : List Order)
       → orders ≡ places 256 noOrder new → keys ≡ places 256 0 (idsOf new) → live ≡ length new
-      → _≡_ {A = Book} (record { orders = orders; keys = keys; live = live; insides = b .insides; fronts = b .fronts; backs = b .backs; held = b .held; code = b .code; faults = b .faults })
+      → _≡_ {A = Book} (holdingOrders b orders keys live)
       (rep (withOrders (view b) new))
-  ordered new p q r i =
-      record { orders = p i; keys = q i; live = r i; insides = insides-are i; fronts = fronts-are i; backs = backs-are i; held = held-is i; code = b .code; faults = b .faults }
+  ordered new p q r i = holdingOrders (same i) (p i) (q i) (r i)
 
   inward : {insides : List Inside} {fronts backs : List ℕ} {held : ℕ} (new : List Inside)
       → insides ≡ places 64 noInside new → fronts ≡ places 64 0 (frontsOf new) → backs ≡ places 64 0 (backsOf new) → held ≡ length new
-      → _≡_ {A = Book} (record { orders = b .orders; keys = b .keys; live = b .live; insides = insides; fronts = fronts; backs = backs; held = held; code = b .code; faults = b .faults })
+      → _≡_ {A = Book} (holdingInsides b insides fronts backs held)
       (rep (withInsides (view b) new))
-  inward new p q r h i =
-      record { orders = orders-are i; keys = keys-are i; live = live-is i; insides = p i; fronts = q i; backs = r i; held = h i; code = b .code; faults = b .faults }
+  inward new p q r h i = holdingInsides (same i) (p i) (q i) (r i) (h i)
 
   put-places' : {A : Type 0} (n : ℕ) (dead : A) {array : List A} {at : ℕ} (xs : List A) (x : A) → array ≡ places n dead xs → at ≡ length xs → at < n
       → set array at x ≡ places n dead (xs ++ (x ∷ []))
@@ -89,7 +90,7 @@ module _ (b : Book) (same : b ≡ rep (view b)) where
       ap₂ (λ (a : List _) (k : ℕ). set a k x) e l ∙ put-places n dead xs x small
 
   pub put-rep : (o : Order) → b .live < 256
-      → _≡_ {A = Book} (record { orders = set (b .orders) (b .live) o; keys = set (b .keys) (b .live) (o .id); live = b .live + 1; insides = b .insides; fronts = b .fronts; backs = b .backs; held = b .held; code = b .code; faults = b .faults })
+      → _≡_ {A = Book} (holdingOrders b (set (b .orders) (b .live) o) (set (b .keys) (b .live) (o .id)) (b .live + 1))
       (rep (withOrders (view b) (os ++ (o ∷ []))))
   put-rep o h =
       ordered (os ++ (o ∷ []))
@@ -98,7 +99,7 @@ module _ (b : Book) (same : b ≡ rep (view b)) where
       (ap (λ (k : ℕ). k + 1) live-is ∙ sym (length-put os o))
 
   pub enter-rep : (x : Inside) → b .held < 64
-      → _≡_ {A = Book} (record { orders = b .orders; keys = b .keys; live = b .live; insides = set (b .insides) (b .held) x; fronts = set (b .fronts) (b .held) (frontIn x); backs = set (b .backs) (b .held) (backIn x); held = b .held + 1; code = b .code; faults = b .faults })
+      → _≡_ {A = Book} (holdingInsides b (set (b .insides) (b .held) x) (set (b .fronts) (b .held) (frontIn x)) (set (b .backs) (b .held) (backIn x)) (b .held + 1))
       (rep (withInsides (view b) (is ++ (x ∷ []))))
   enter-rep x h =
       inward (is ++ (x ∷ []))
@@ -114,7 +115,7 @@ module _ (b : Book) (same : b ≡ rep (view b)) where
       ap (λ (l : List Order). getD l j blank) orders-are ∙ get-places 256 noOrder os j blank small
 
   pub replace-rep : (j shares price : ℕ) → j < b .live
-      → _≡_ {A = Book} (record { orders = set (b .orders) j (repriced (getD (b .orders) j blank) shares price); keys = b .keys; live = b .live; insides = b .insides; fronts = b .fronts; backs = b .backs; held = b .held; code = b .code; faults = b .faults })
+      → _≡_ {A = Book} (holdingOrders b (set (b .orders) j (repriced (getD (b .orders) j blank) shares price)) (b .keys) (b .live))
       (rep (withOrders (view b) (set os j (repriced (getD os j blank) shares price))))
   replace-rep j shares price h =
       let small : j < length os = rw live-is at h in
@@ -132,29 +133,28 @@ module _ (b : Book) (same : b ≡ rep (view b)) where
       ap₂ (λ (a : List _) (k : ℕ). set (set a j (getD a (k - 1) d)) (k - 1) dead) e l ∙ leave-places n dead xs j d small all
 
   pub remove-rep : (j : ℕ) → j < b .live → b .live ≤ 256
-      → _≡_ {A = Book} (record { orders = set (set (b .orders) j (getD (b .orders) (b .live - 1) blank)) (b .live - 1) noOrder; keys = set (set (b .keys) j (getD (b .keys) (b .live - 1) 0)) (b .live - 1) 0; live = b .live - 1; insides = b .insides; fronts = b .fronts; backs = b .backs; held = b .held; code = b .code; faults = b .faults })
+      → _≡_ {A = Book} (holdingOrders b (set (set (b .orders) j (getD (b .orders) (b .live - 1) blank)) (b .live - 1) noOrder) (set (set (b .keys) j (getD (b .keys) (b .live - 1) 0)) (b .live - 1) 0) (b .live - 1))
       (rep (withOrders (view b) (without blank j os)))
   remove-rep j h fits =
       ordered (without blank j os)
       (leave' 256 noOrder blank os j orders-are live-is h fits)
-      (leave' 256 0 0 (idsOf os) j keys-are (live-is ∙ sym (length-map os idOf)) h fits ∙ ap (places 256 0) (sym (map-leave idOf os j blank)))
-      (ap (λ (k : ℕ). k - 1) live-is ∙ sym (length-leave os j blank))
+      (leave' 256 0 0 (idsOf os) j keys-are (live-is ∙ sym (length-map os idOf)) h fits ∙ ap (places 256 0) (sym (map-without idOf blank j os)))
+      (ap (λ (k : ℕ). k - 1) live-is ∙ sym (length-without blank j os))
 
   -- an inside in the place of one with the same symbol
-  pub renew-rep : (j : ℕ) (x : Inside) → j < b .held → frontIn x ≡ frontIn (getD is j noInside) → backIn x ≡ backIn (getD is j noInside)
-      → _≡_ {A = Book} (record { orders = b .orders; keys = b .keys; live = b .live; insides = set (b .insides) j x; fronts = b .fronts; backs = b .backs; held = b .held; code = b .code; faults = b .faults })
+  pub renew-rep : (j : ℕ) (x : Inside) → j < b .held → frontIn x ≡ frontIn (getD is j gone) → backIn x ≡ backIn (getD is j gone)
+      → _≡_ {A = Book} (holdingInsides b (set (b .insides) j x) (b .fronts) (b .backs) (b .held))
       (rep (withInsides (view b) (set is j x)))
   renew-rep j x h f k =
       let small : j < length is = rw held-is at h in
       inward (set is j x)
       (ap (λ (l : List Inside). set l j x) insides-are ∙ set-places 64 noInside is j x small)
-      (fronts-are ∙ ap (places 64 0) (sym (map-set-same frontIn is j x noInside f)))
-      (backs-are ∙ ap (places 64 0) (sym (map-set-same backIn is j x noInside k)))
+      (fronts-are ∙ ap (places 64 0) (sym (map-set-same frontIn is j x gone f)))
+      (backs-are ∙ ap (places 64 0) (sym (map-set-same backIn is j x gone k)))
       (held-is ∙ sym (length-set is j x))
 
   -- nothing but the code, or the faults, is other than it was
   pub marked-rep : (code : ℕ) (faults : Faults)
-      → _≡_ {A = Book} (record { orders = b .orders; keys = b .keys; live = b .live; insides = b .insides; fronts = b .fronts; backs = b .backs; held = b .held; code = code; faults = faults })
-      (rep (record { orders = os; insides = is; code = code; faults = faults }))
-  marked-rep code faults i =
-      record { orders = orders-are i; keys = keys-are i; live = live-is i; insides = insides-are i; fronts = fronts-are i; backs = backs-are i; held = held-is i; code = code; faults = faults }
+      → _≡_ {A = Book} (holdingMarks b code faults)
+      (rep (withFaults (withCode (view b) code) faults))
+  marked-rep code faults = ap (λ (x : Book). holdingMarks x code faults) same

@@ -3,12 +3,12 @@
 -- Assumes nothing.
 use mathlib.Core.Path.{_≡_, refl, ap, _∙_, sym}
 use mathlib.Core.List.{List, [], _∷_, _++_, map}
-use Prim.Native.Nat.{ℕ, zero, suc, _+_, _-_, _≤_, _<_}
+use Prim.Native.Nat.{ℕ, suc, _+_, _-_, _≤_, _<_}
 use native.Mathlib.Omega.{arith}
-use lib.ListN.{length, getD, take, set, length-append, length-set, length-replicate, length-map, List·getD-append, List·getD-map, drop-of-length-le}
+use lib.ListN.{length, getD, take, set, length-append, length-set, length-replicate, List·getD-append, drop-of-length-le}
 use lib.Seq.{take-append-seam, set-append-seam, set-append-left, set-split, append-snoc, length-take-le}
+use Rattle.book_index.specs.Changes.{without}
 use Rattle.book.specs.Tables.{places}
-use Rattle.book.specs.Applying.{without}
 
 module _ {A : Type 0} (n : ℕ) (dead : A) where
   pub length-places : (xs : List A) → length xs ≤ n → length (places n dead xs) ≡ n
@@ -59,26 +59,5 @@ module _ {A B : Type 0} (f : A → B) where
   map-put [] x = refl
   map-put (y ∷ xs) x = ap (λ (l : List B). f y ∷ l) (map-put xs x)
 
-  pub map-set : (xs : List A) (i : ℕ) (x : A) → map f (set xs i x) ≡ set (map f xs) i (f x)
-  map-set [] i x = refl
-  map-set (y ∷ xs) zero x = refl
-  map-set (y ∷ xs) (suc i) x = ap (λ (l : List B). f y ∷ l) (map-set xs i x)
-
-  map-take : (xs : List A) (n : ℕ) → map f (take n xs) ≡ take n (map f xs)
-  map-take [] zero = refl
-  map-take [] (suc n) = refl
-  map-take (y ∷ xs) zero = refl
-  map-take (y ∷ xs) (suc n) = ap (λ (l : List B). f y ∷ l) (map-take xs n)
-
-  pub map-leave : (xs : List A) (j : ℕ) (d : A) → map f (without d j xs) ≡ without (f d) j (map f xs)
-  unfolding without
-  map-leave xs j d =
-      map-take (set xs j (getD xs (length xs - 1) d)) (length xs - 1)
-      ∙ rw (map-set xs j (getD xs (length xs - 1) d), length-map xs f, List·getD-map f xs (length xs - 1) d)
-
 pub length-put : {A : Type 0} (xs : List A) (x : A) → length (xs ++ (x ∷ [])) ≡ length xs + 1
 length-put xs x = length-append xs (x ∷ [])
-
-pub length-leave : {A : Type 0} (xs : List A) (j : ℕ) (d : A) → length (without d j xs) ≡ length xs - 1
-unfolding without
-length-leave xs j d = length-take-le (length xs - 1) (set xs j (getD xs (length xs - 1) d)) (simp length-set (omega arith))

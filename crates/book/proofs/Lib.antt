@@ -5,10 +5,12 @@ pub mod Arms
 pub mod Holding
 pub mod Told
 pub mod Carrying
+pub mod Symbols
+pub mod Keyed
+pub mod Under
 pub mod Steps
 pub mod Answers
 pub mod Keeping
 pub mod Bests
 pub mod Laws
-pub mod Symbols
-pub mod Live
+pub mod Named

@@ -1,20 +1,21 @@
 -- One message, from what was decided to the book behind it: the facts that each arm of the code needs, over plain values.
 -- Assumes nothing.
-use mathlib.Core.Path.{_≡_, refl, ap, ap₂, _∙_, sym, subst}
+use mathlib.Core.Path.{_≡_, refl, ap, ap₂, _∙_, sym}
 use mathlib.Core.Bool.{true}
 use mathlib.Core.List.{List, [], _∷_, _++_}
 use Prim.Native.Nat.{ℕ, zero, suc, _+_, _-_, _≤_, _<_}
 use native.Mathlib.Omega.{arith}
 use lib.Dec.{lit<}
-use lib.ListN.{length, getD, take, set, replicate, length-take, length-map, List·getD-map}
+use lib.ListN.{length, getD, take, set, replicate, length-take, length-map}
 use Rattle.wire.specs.Number.{part}
 use Rattle.fields.specs.Id.{numberOf}
 use Rattle.message.specs.Layouts.{layoutOf, typeIn}
 use Rattle.message.specs.Row.{fieldsOf, messageOf, typeOf}
 use Rattle.message.specs.Table.{payloadOf}
-use Rattle.book.specs.Lookup.{isAt, spotOf, frontOf, backOf, keyAt, symbolAt}
-use Rattle.book.specs.Tables.{Tables, blank, noOrder, noInside, places, idsOf, frontsOf, backsOf, rep, view}
-use Rattle.book.specs.Applying.{Whole, Naming, messageIn, topicOf, thereOf, seenOf, effectIn, carried, applyOf, orderOf, insideOf, faulted}
+use Rattle.book.specs.Lookup.{isAt, placeFound, frontOf, backOf, keyAt, symbolAt}
+use Rattle.book.specs.Tables.{Tables, blank, noOrder, places, idsOf, frontsOf, backsOf, holdingOrders, holdingInsides, holdingMarks, rep, view}
+use Rattle.message.specs.Whole.{Whole}
+use Rattle.book.specs.Applying.{Naming, messageIn, topicOf, thereOf, seenOf, effectIn, carried, applyOf, orderOf, insideOf, faulted, applyUnder, effectOf}
 use Rattle.book.specs.Rule.{Kept}
 use Rattle.message.specs.declared.kinds.Message.{Message}
 use Rattle.book.specs.declared.lookup.Found.{Found}
@@ -27,10 +28,10 @@ use Rattle.book.specs.declared.deciding.Seen.{Seen}
 use Rattle.book.specs.declared.deciding.Effect.{Effect}
 use Rattle.book.specs.declared.deciding.Effect.the-variants.{Put, Replace, Remove, Renew, Enter, Record, Unchanged, Fault}
 use Rattle.book.proofs.Carrying.{live-is, held-is, orders-are, keys-are, fronts-are, backs-are, restored, restored-is, put-rep, enter-rep, replace-rep, remove-rep, renew-rep, marked-rep}
-use Rattle.book.proofs.Finding.{key-below, symbol-below, symbol-there}
 use Rattle.book.proofs.Holding.{take-places}
 use Rattle.book.proofs.Told.{Change, tells, AtOrder}
-use Rattle.book.proofs.Types.{opened, type-kept}
+use Rattle.book.proofs.Types.{opened, type-kept, told-topic}
+use Rattle.book.proofs.Under.{at-inside, at-order, key-below, renewed}
 
 -- what the code knows once the effect is decided
 pub record Decided (b : Book) (s : List ℕ) (key : ℕ) (topic : List ℕ) (e : Effect) : Type 0 where
@@ -62,15 +63,15 @@ module _ (f : Order → ℕ) (none : f noOrder ≡ f blank) where
   unfolding places
   past xs i = past-from xs (256 - length xs) i
 
-spot-any : (f : Found) (n : ℕ) → 0 < n → (isAt f ≡ true → spotOf f < n) → spotOf f < n
-spot-any (At place) n h g = g refl
-spot-any Nothing n h g = h
+found-any : (f : Found) (n : ℕ) → 0 < n → (isAt f ≡ true → placeFound f < n) → placeFound f < n
+found-any (At place) n h g = g refl
+found-any Nothing n h g = h
 
 module _ (b : Book) (s : List ℕ) (kept : Kept b) {key : ℕ} {topic : List ℕ}
     (value : key ≡ numberOf (messageIn s .id)) (about : topic ≡ topicOf (messageIn s))
     {order inside : Found} (found : order ≡ keyAt key (take (b .live) (b .keys)))
     (looked : inside ≡ symbolAt topic (take (b .held) (b .fronts)) (take (b .held) (b .backs)))
-    {at : ℕ} (spot : at ≡ spotOf order) where
+    {at : ℕ} (spot : at ≡ placeFound order) where
   abbrev t : Tables
   t = view b
 
@@ -89,7 +90,7 @@ module _ (b : Book) (s : List ℕ) (kept : Kept b) {key : ℕ} {topic : List ℕ
   there-seen f none =
       ap (λ (l : List Order). f (getD l at blank)) (orders-are b (kept .same))
       ∙ past f none (t .orders) at
-      ∙ ap (λ (k : ℕ). f (getD (t .orders) k blank)) (spot ∙ ap spotOf order-seen)
+      ∙ ap (λ (k : ℕ). f (getD (t .orders) k blank)) (spot ∙ ap placeFound order-seen)
 
   pub seen-is : _≡_ {A = Seen} (record { live = b .live; order = order; shares = getD (b .orders) at blank .shares; price = getD (b .orders) at blank .price; held = b .held; inside = inside })
       (seenOf t (messageIn s))
@@ -98,11 +99,11 @@ module _ (b : Book) (s : List ℕ) (kept : Kept b) {key : ℕ} {topic : List ℕ
       record { live = live-is b (kept .same) i; order = order-seen i; shares = there-seen (λ o. o .shares) refl i; price = there-seen (λ o. o .price) refl i; held = held-is b (kept .same) i; inside = inside-seen i }
 
 -- the look-up's place is one of the book's
-pub spot-within : (keys : List ℕ) (live key : ℕ) {order : Found} {at : ℕ} → live ≤ 256 → order ≡ keyAt key (take live keys) → at ≡ spotOf order → at < 256
-spot-within keys live key fits found spot =
+pub found-within : (keys : List ℕ) (live key : ℕ) {order : Found} {at : ℕ} → live ≤ 256 → order ≡ keyAt key (take live keys) → at ≡ placeFound order → at < 256
+found-within keys live key fits found spot =
     let xs = take live keys in
     let few : length xs ≤ live = simp length-take (omega arith) in
-    let h : spotOf (keyAt key xs) < 256 = spot-any (keyAt key xs) 256 (lit< tt) (λ e. let r = key-below key xs e in omega arith) in
+    let h : placeFound (keyAt key xs) < 256 = found-any (keyAt key xs) 256 (lit< tt) (λ e. let r = key-below key xs e in omega arith) in
     rw (spot, found) h
 
 -- ---- what follows from the effect
@@ -115,7 +116,7 @@ module _ {b : Book} {s : List ℕ} {key : ℕ} {topic : List ℕ} {e : Effect} (
   tell h = tells (seenOf (view b) m) m (sym (d .effect) ∙ h) .1
 
   done : (number : ℕ) {e' : Effect} → e ≡ e' → rep (carried (view b) number m e') ≡ rep (applyOf (view b) number s)
-  unfolding applyOf
+  unfolding applyUnder effectOf
   done number h = ap (λ (x : Effect). rep (carried (view b) number m x)) (sym h ∙ d .effect)
 
   of-type : {k : ℕ} → typeOf m ≡ k → typeIn s ≡ k
@@ -131,11 +132,7 @@ module _ {b : Book} {s : List ℕ} {key : ℕ} {topic : List ℕ} {e : Effect} (
 
   -- the place of an order that the message names
   at-live : {place : ℕ} → AtOrder (seenOf (view b) m) place → place < b .live
-  unfolding seenOf
-  at-live a =
-      let r = key-below (numberOf (m .id)) (idsOf (view b .orders)) (a .there) in
-      let l : length (idsOf (view b .orders)) ≡ b .live = length-map (view b .orders) (λ o. o .id) ∙ sym (live-is b (d .kept .same)) in
-      subst (λ (x : ℕ). x < b .live) (sym (a .place)) (subst (λ (n : ℕ). spotOf (keyAt (numberOf (m .id)) (idsOf (view b .orders))) < n) l r)
+  at-live a = rw (live-is b (d .kept .same)) (at-order (view b) m a .0)
 
   -- Put
   module _ (h : e ≡ Put) where
@@ -149,7 +146,7 @@ module _ {b : Book} {s : List ℕ} {key : ℕ} {topic : List ℕ} {e : Effect} (
         record { room = opened s refl 21 t refl (d .whole .enough); value = d .value ∙ ap (λ (k : ℕ). numberOf (fieldsOf k s .id)) t }
 
     pub put-done : (number : ℕ) {made : Order} → made ≡ orderOf (fieldsOf 21 s)
-        → _≡_ {A = Book} (record { orders = set (b .orders) (b .live) made; keys = set (b .keys) (b .live) key; live = b .live + 1; insides = b .insides; fronts = b .fronts; backs = b .backs; held = b .held; code = b .code; faults = b .faults })
+        → _≡_ {A = Book} (holdingOrders b (set (b .orders) (b .live) made) (set (b .keys) (b .live) key) (b .live + 1))
         (rep (applyOf (view b) number s))
     unfolding orderOf fieldsOf messageOf layoutOf
     put-done number is =
@@ -157,7 +154,7 @@ module _ {b : Book} {s : List ℕ} {key : ℕ} {topic : List ℕ} {e : Effect} (
         let o : _ ≡ orderOf m = is ∙ ap (λ (k : ℕ). orderOf (fieldsOf k s)) (sym t) in
         let first : numberOf (part s 7 14) ≡ orderOf (fieldsOf 21 s) .id = refl in
         let k : key ≡ orderOf m .id = put-naming .value ∙ first ∙ ap (λ (j : ℕ). orderOf (fieldsOf j s) .id) (sym t) in
-        (λ i. record { orders = set (b .orders) (b .live) (o i); keys = set (b .keys) (b .live) (k i); live = b .live + 1; insides = b .insides; fronts = b .fronts; backs = b .backs; held = b .held; code = b .code; faults = b .faults })
+        (λ i. holdingOrders b (set (b .orders) (b .live) (o i)) (set (b .keys) (b .live) (k i)) (b .live + 1))
         ∙ put-rep b (d .kept .same) (orderOf m) put-few
         ∙ done number h
 
@@ -165,12 +162,12 @@ module _ {b : Book} {s : List ℕ} {key : ℕ} {topic : List ℕ} {e : Effect} (
   replace-within h = at-live (tell h .0)
 
   pub replace-done : (number : ℕ) {place shares price : ℕ} → e ≡ Replace place shares price
-      → _≡_ {A = Book} (record { orders = restored (b .orders) place shares price; keys = b .keys; live = b .live; insides = b .insides; fronts = b .fronts; backs = b .backs; held = b .held; code = b .code; faults = b .faults })
+      → _≡_ {A = Book} (holdingOrders b (restored (b .orders) place shares price) (b .keys) (b .live))
       (rep (applyOf (view b) number s))
   replace-done number {place} {shares} {price} h =
       let small : place < length (b .orders) = omega (arith, replace-within h, d .kept .live, d .kept .orders) in
       ap
-      (λ (l : List Order). record { orders = l; keys = b .keys; live = b .live; insides = b .insides; fronts = b .fronts; backs = b .backs; held = b .held; code = b .code; faults = b .faults })
+      (λ (l : List Order). holdingOrders b l (b .keys) (b .live))
       (restored-is (b .orders) place shares price small)
       ∙ replace-rep b (d .kept .same) place shares price (replace-within h)
       ∙ done number h
@@ -179,7 +176,7 @@ module _ {b : Book} {s : List ℕ} {key : ℕ} {topic : List ℕ} {e : Effect} (
   remove-within h = at-live (tell h)
 
   pub remove-done : (number : ℕ) {place : ℕ} {none : Order} → e ≡ Remove place → none ≡ noOrder
-      → _≡_ {A = Book} (record { orders = set (set (b .orders) place (getD (b .orders) (b .live - 1) blank)) (b .live - 1) none; keys = set (set (b .keys) place (getD (b .keys) (b .live - 1) 0)) (b .live - 1) 0; live = b .live - 1; insides = b .insides; fronts = b .fronts; backs = b .backs; held = b .held; code = b .code; faults = b .faults })
+      → _≡_ {A = Book} (holdingOrders b (set (set (b .orders) place (getD (b .orders) (b .live - 1) blank)) (b .live - 1) none) (set (set (b .keys) place (getD (b .keys) (b .live - 1) 0)) (b .live - 1) 0) (b .live - 1))
       (rep (applyOf (view b) number s))
   remove-done number h is = rw is (remove-rep b (d .kept .same) _ (remove-within h) (d .kept .live) ∙ done number h)
 
@@ -192,44 +189,22 @@ module _ {b : Book} {s : List ℕ} {key : ℕ} {topic : List ℕ} {e : Effect} (
   told-is h is = ap (λ (k : ℕ). insideOf (fieldsOf k s)) (of-type h) ∙ sym is
 
   topic-told : typeOf m ≡ 26 → insideOf m .symbol ≡ topic
-  unfolding insideOf fieldsOf messageOf layoutOf
-  topic-told h =
-      let t = of-type h in
-      let top : insideOf (fieldsOf 26 s) .symbol ≡ topicOf (fieldsOf 26 s) = refl in
-      ap (λ (k : ℕ). insideOf (fieldsOf k s) .symbol) t ∙ top ∙ ap (λ (k : ℕ). topicOf (fieldsOf k s)) (sym t) ∙ sym (d .about)
+  topic-told h = told-topic s h ∙ sym (d .about)
 
   pub renew-room : {place : ℕ} → e ≡ Renew place → 46 ≤ length s
   renew-room h = top-room (tell h .type)
 
   pub renew-within : {place : ℕ} → e ≡ Renew place → place < b .held
-  unfolding seenOf
-  renew-within h =
-      let a = tell h in
-      let r = symbol-below (topicOf m) (frontsOf (view b .insides)) (backsOf (view b .insides)) (a .there) in
-      let l : length (frontsOf (view b .insides)) ≡ b .held = length-map (view b .insides) (λ i. frontOf (i .symbol)) ∙ sym (held-is b (d .kept .same)) in
-      subst (λ (x : ℕ). x < b .held) (sym (a .place)) (subst (λ (n : ℕ). spotOf (symbolAt (topicOf m) (frontsOf (view b .insides)) (backsOf (view b .insides))) < n) l r)
-
-  -- the inside that is held at that place has the message's symbol
-  renewed : {place : ℕ} → e ≡ Renew place
-      → (frontOf (insideOf m .symbol) ≡ frontOf (getD (view b .insides) place noInside .symbol)) × (backOf (insideOf m .symbol) ≡ backOf (getD (view b .insides) place noInside .symbol))
-  unfolding seenOf
-  renewed h =
-      let a = tell h in
-      let xs = view b .insides in
-      let r = symbol-there (topicOf m) (frontsOf xs) (backsOf xs) (a .there) in
-      let same = topic-told (a .type) ∙ d .about in (
-        ap frontOf same ∙ sym (r .0) ∙ ap (λ (k : ℕ). getD (frontsOf xs) k 0) (sym (a .place)) ∙ List·getD-map (λ i. frontOf (i .symbol)) xs _ noInside,
-        ap backOf same ∙ sym (r .1) ∙ ap (λ (k : ℕ). getD (backsOf xs) k 0) (sym (a .place)) ∙ List·getD-map (λ i. backOf (i .symbol)) xs _ noInside,
-      )
+  renew-within h = rw (held-is b (d .kept .same)) (at-inside (view b) m (tell h) .0)
 
   pub renew-done : (number : ℕ) {place : ℕ} {x : Inside} → e ≡ Renew place → x ≡ insideOf (fieldsOf 26 s)
-      → _≡_ {A = Book} (record { orders = b .orders; keys = b .keys; live = b .live; insides = set (b .insides) place x; fronts = b .fronts; backs = b .backs; held = b .held; code = b .code; faults = b .faults })
+      → _≡_ {A = Book} (holdingInsides b (set (b .insides) place x) (b .fronts) (b .backs) (b .held))
       (rep (applyOf (view b) number s))
   renew-done number {place} h is =
       ap
-      (λ (y : Inside). record { orders = b .orders; keys = b .keys; live = b .live; insides = set (b .insides) place y; fronts = b .fronts; backs = b .backs; held = b .held; code = b .code; faults = b .faults })
+      (λ (y : Inside). holdingInsides b (set (b .insides) place y) (b .fronts) (b .backs) (b .held))
       (sym (told-is (tell h .type) is))
-      ∙ renew-rep b (d .kept .same) place (insideOf m) (renew-within h) (renewed h .0) (renewed h .1)
+      ∙ renew-rep b (d .kept .same) place (insideOf m) (renew-within h) (renewed (view b) s (tell h) .0) (renewed (view b) s (tell h) .1)
       ∙ done number h
 
   pub enter-room : e ≡ Enter → 46 ≤ length s
@@ -239,18 +214,18 @@ module _ {b : Book} {s : List ℕ} {key : ℕ} {topic : List ℕ} {e : Effect} (
   enter-few h = rw held-seen at (tell h .few)
 
   pub enter-done : (number : ℕ) {first last : ℕ} {x : Inside} → e ≡ Enter → x ≡ insideOf (fieldsOf 26 s) → first ≡ frontOf topic → last ≡ backOf topic
-      → _≡_ {A = Book} (record { orders = b .orders; keys = b .keys; live = b .live; insides = set (b .insides) (b .held) x; fronts = set (b .fronts) (b .held) first; backs = set (b .backs) (b .held) last; held = b .held + 1; code = b .code; faults = b .faults })
+      → _≡_ {A = Book} (holdingInsides b (set (b .insides) (b .held) x) (set (b .fronts) (b .held) first) (set (b .backs) (b .held) last) (b .held + 1))
       (rep (applyOf (view b) number s))
   enter-done number h is f l =
       let x = told-is (tell h .type) is in
       let same = topic-told (tell h .type) in
-      (λ i. record { orders = b .orders; keys = b .keys; live = b .live; insides = set (b .insides) (b .held) (sym x i); fronts = set (b .fronts) (b .held) ((f ∙ ap frontOf (sym same)) i); backs = set (b .backs) (b .held) ((l ∙ ap backOf (sym same)) i); held = b .held + 1; code = b .code; faults = b .faults })
+      (λ i. holdingInsides b (set (b .insides) (b .held) (sym x i)) (set (b .fronts) (b .held) ((f ∙ ap frontOf (sym same)) i)) (set (b .backs) (b .held) ((l ∙ ap backOf (sym same)) i)) (b .held + 1))
       ∙ enter-rep b (d .kept .same) (insideOf m) (enter-few h)
       ∙ done number h
 
   -- Record, Unchanged and Fault
   pub record-done : (number : ℕ) {code : ℕ} → e ≡ Record code
-      → _≡_ {A = Book} (record { orders = b .orders; keys = b .keys; live = b .live; insides = b .insides; fronts = b .fronts; backs = b .backs; held = b .held; code = code; faults = b .faults })
+      → _≡_ {A = Book} (holdingMarks b code (b .faults))
       (rep (applyOf (view b) number s))
   record-done number h = marked-rep b (d .kept .same) _ (b .faults) ∙ done number h
 
@@ -258,6 +233,6 @@ module _ {b : Book} {s : List ℕ} {key : ℕ} {topic : List ℕ} {e : Effect} (
   unchanged-done number h = d .kept .same ∙ done number h
 
   pub fault-done : (number : ℕ) {reason : ℕ} {more : Faults} → e ≡ Fault reason → more ≡ faulted (b .faults) number reason
-      → _≡_ {A = Book} (record { orders = b .orders; keys = b .keys; live = b .live; insides = b .insides; fronts = b .fronts; backs = b .backs; held = b .held; code = b .code; faults = more })
+      → _≡_ {A = Book} (holdingMarks b (b .code) more)
       (rep (applyOf (view b) number s))
   fault-done number h is = rw is (marked-rep b (d .kept .same) (b .code) _ ∙ done number h)

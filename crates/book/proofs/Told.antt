@@ -1,6 +1,6 @@
 -- What an effect tells: of what message it can come, and what the look-ups found.
 -- Assumes nothing.
-use mathlib.Core.Path.{_≡_, refl, ap, _∙_, subst}
+use mathlib.Core.Path.{_≡_, refl, ap, _∙_, sym, subst}
 use mathlib.Core.Logic.{_≢_, _⊎_, inl, inr}
 use mathlib.Core.Bool.{Bool, true, false, cond, not, _&&_}
 use Prim.Native.Nat.{ℕ, _-_, _≤_, _<_}
@@ -12,17 +12,18 @@ use Rattle.message.specs.Row.{typeOf, rowOf}
 use Rattle.message.specs.Rules.{goodMessage}
 use Rattle.message.specs.Table.{payloadOf}
 use Rattle.message.specs.declared.kinds.Message.{Message}
-use Rattle.book.specs.Lookup.{isAt, spotOf}
+use Rattle.book.specs.Lookup.{isAt, placeFound}
 use Rattle.book.specs.Applying.{names, executes, changeOf, effectOf}
+use Rattle.book.specs.Named.{isFault}
 use Rattle.book.specs.declared.deciding.Seen.{Seen}
 use Rattle.book.specs.declared.deciding.Effect.{Effect}
 use Rattle.book.specs.declared.deciding.Effect.the-variants.{Put, Replace, Remove, Renew, Enter, Record, Unchanged, Fault}
-use Rattle.book.proofs.Types.{pick}
+use Rattle.book.proofs.Types.{no, pick}
 
 -- the place of the order that the message names
 pub record AtOrder (seen : Seen) (at : ℕ) : Type 0 where
   pub there : isAt (seen .order) ≡ true
-  pub place : at ≡ spotOf (seen .order)
+  pub place : at ≡ placeFound (seen .order)
 
 -- an Update's shares and price
 pub record Updated (m : Message) (q p : ℕ) : Type 0 where
@@ -44,7 +45,7 @@ pub record Placed (seen : Seen) (m : Message) : Type 0 where
 pub record Held (seen : Seen) (m : Message) (at : ℕ) : Type 0 where
   pub type : typeOf m ≡ 26
   pub there : isAt (seen .inside) ≡ true
-  pub place : at ≡ spotOf (seen .inside)
+  pub place : at ≡ placeFound (seen .inside)
 
 pub record Entered (seen : Seen) (m : Message) : Type 0 where
   pub type : typeOf m ≡ 26
@@ -76,12 +77,9 @@ Good m (Record code) = goodMessage m ≡ true
 Good m Unchanged = goodMessage m ≡ true
 Good m (Fault reason) = Unit {0}
 
-right : (a b : Bool) → a ≡ true → (a && b) ≡ false → b ≡ false
+pub right : (a b : Bool) → a ≡ true → (a && b) ≡ false → b ≡ false
 right true b e h = h
-right false b e h = let z : _≡_ {A = Bool} true false = cc in absurd (off z)
-  where
-    off : true ≡ false → ⊥
-    off z = let n : _≡_ {A = ℕ} 0 1 = ap (λ (c : Bool). cond c 0 1) z in omega arith
+right false b e h = no e
 
 module _ (seen : Seen) (m : Message) where
   abbrev type : ℕ
@@ -96,17 +94,17 @@ module _ (seen : Seen) (m : Message) where
       (five : (names type && not (isAt (seen .order))) ≡ false)
       (six : (executes type && ltb (seen .shares) (numberIn (rowOf m) 2)) ≡ false)
       (eight : (eqb type 26 && (not (isAt (seen .inside)) && leb 64 (seen .held))) ≡ false) where
-    at-order : names type ≡ true → AtOrder seen (spotOf (seen .order))
+    at-order : names type ≡ true → AtOrder seen (placeFound (seen .order))
     at-order e = record { there = not-false _ (right (names type) _ e five); place = refl }
 
-    execution : (k : ℕ) → type ≡ k → names k ≡ true → Told (cond (eqb (seen .shares - numberIn (rowOf m) 2) 0) (Remove (spotOf (seen .order))) (Replace (spotOf (seen .order)) (seen .shares - numberIn (rowOf m) 2) (seen .price)))
+    execution : (k : ℕ) → type ≡ k → names k ≡ true → Told (cond (eqb (seen .shares - numberIn (rowOf m) 2) 0) (Remove (placeFound (seen .order))) (Replace (placeFound (seen .order)) (seen .shares - numberIn (rowOf m) 2) (seen .price)))
     execution k e n =
-        let at : AtOrder seen (spotOf (seen .order)) = at-order (ap names e ∙ n) in
+        let at : AtOrder seen (placeFound (seen .order)) = at-order (ap names e ∙ n) in
         pick Told (eqb (seen .shares - numberIn (rowOf m) 2) 0)
         (λ z. (good, at))
         (λ z. let h : seen .shares - numberIn (rowOf m) 2 ≢ 0 = eqb-false _ _ z in (good, (at, inr (record { some = omega arith; fewer = omega arith; price = refl }))))
 
-    inside : type ≡ 26 → Told (cond (isAt (seen .inside)) (Renew (spotOf (seen .inside))) Enter)
+    inside : type ≡ 26 → Told (cond (isAt (seen .inside)) (Renew (placeFound (seen .inside))) Enter)
     inside e =
         let open-eight : (not (isAt (seen .inside)) && leb 64 (seen .held)) ≡ false = right (eqb type 26) _ (ap (λ (k : ℕ). eqb k 26) e) eight in
         pick Told (isAt (seen .inside))
@@ -123,18 +121,34 @@ module _ (seen : Seen) (m : Message) where
         λ f. pick Told (eqb type 25) (λ e. execution 25 (eqb-true type 25 e) refl)
         λ f. pick Told (eqb type 26) (λ e. inside (eqb-true type 26 e)) (λ e. (good, tt))
 
-  pub told : Good m (effectOf seen m) × Change seen m (effectOf seen m)
+  -- by the faults, one after the other: what holds of a fault, and of the change where no fault holds
+  pub by-faults : (P : Effect → Type 0) → ((reason : ℕ) → P (Fault reason))
+      → (goodMessage m ≡ true
+      → (eqb type 21 && isAt (seen .order)) ≡ false
+      → (eqb type 21 && leb 256 (seen .live)) ≡ false
+      → (names type && not (isAt (seen .order))) ≡ false
+      → (executes type && ltb (seen .shares) (numberIn (rowOf m) 2)) ≡ false
+      → (eqb type 26 && (not (isAt (seen .inside)) && leb 64 (seen .held))) ≡ false
+      → P (changeOf seen m))
+      → P (effectOf seen m)
   unfolding effectOf
-  told =
-      pick Told (eqb (payloadOf type) 255) (λ e. (tt, tt))
-      λ f1. pick Told (not (goodMessage m)) (λ e. (tt, tt))
-      λ f2. pick Told (eqb type 21 && isAt (seen .order)) (λ e. (tt, tt))
-      λ f3. pick Told (eqb type 21 && leb 256 (seen .live)) (λ e. (tt, tt))
-      λ f4. pick Told (names type && not (isAt (seen .order))) (λ e. (tt, tt))
-      λ f5. pick Told (executes type && ltb (seen .shares) (numberIn (rowOf m) 2)) (λ e. (tt, tt))
-      λ f6. pick Told (executes type && not (eqb (numberIn (rowOf m) 3) (seen .shares - numberIn (rowOf m) 2))) (λ e. (tt, tt))
-      λ f7. pick Told (eqb type 26 && (not (isAt (seen .inside)) && leb 64 (seen .held))) (λ e. (tt, tt))
-      λ f8. change (not-false _ f2) f3 f4 f5 f6 f8
+  by-faults P fault rest =
+      pick P (eqb (payloadOf type) 255) (λ e. fault 1)
+      λ f1. pick P (not (goodMessage m)) (λ e. fault 2)
+      λ f2. pick P (eqb type 21 && isAt (seen .order)) (λ e. fault 3)
+      λ f3. pick P (eqb type 21 && leb 256 (seen .live)) (λ e. fault 4)
+      λ f4. pick P (names type && not (isAt (seen .order))) (λ e. fault 5)
+      λ f5. pick P (executes type && ltb (seen .shares) (numberIn (rowOf m) 2)) (λ e. fault 6)
+      λ f6. pick P (executes type && not (eqb (numberIn (rowOf m) 3) (seen .shares - numberIn (rowOf m) 2))) (λ e. fault 7)
+      λ f7. pick P (eqb type 26 && (not (isAt (seen .inside)) && leb 64 (seen .held))) (λ e. fault 8)
+      λ f8. rest (not-false _ f2) f3 f4 f5 f6 f8
+
+  pub told : Good m (effectOf seen m) × Change seen m (effectOf seen m)
+  told = by-faults Told (λ reason. (tt, tt)) change
+
+  -- where no fault holds, the effect is the change that the type makes
+  pub unfaulted : isFault (effectOf seen m) ≡ false → effectOf seen m ≡ changeOf seen m
+  unfaulted = by-faults (λ (e : Effect). isFault e ≡ false → e ≡ changeOf seen m) (λ reason h. no (sym h)) (λ g three four five six eight h. refl)
 
   -- what an effect that is known tells
   pub tells : {e : Effect} → effectOf seen m ≡ e → Good m e × Change seen m e

@@ -4,9 +4,9 @@ use mathlib.Core.Path.{_≡_, refl, ap, _∙_, sym, subst}
 use mathlib.Core.Logic.{_≢_}
 use mathlib.Core.Bool.{Bool, true, false, cond, not}
 use mathlib.Core.List.{List}
-use Prim.Native.Nat.{ℕ, _+_, _≤_, _<_, _^_}
+use Prim.Native.Nat.{ℕ, _+_, _≤_, _<_}
 use native.Mathlib.Omega.{arith}
-use borrow.Author.Tests.{ne-eqb, eqb-true, eqb-false}
+use borrow.Author.Tests.{eq-eqb, ne-eqb, eqb-true}
 use lib.Dec.{eqb}
 use lib.ListN.{length}
 use Rattle.wire.specs.Number.{part}
@@ -14,41 +14,24 @@ use Rattle.fields.specs.Tests.{between, firstAll}
 use Rattle.fields.specs.Id.{isDigit, goodId, valueOf, noValue, numberOf, idAnswer}
 use Rattle.fields.specs.declared.id.IdValue.{IdValue}
 use Rattle.fields.specs.declared.id.IdValue.the-variants.{Value, Refused}
-use Rattle.fields.proofs.Ids.{value-below}
 use Rattle.message.proofs.Cases.{room}
 use Rattle.message.specs.Layouts.{layoutOf, typeIn}
 use Rattle.message.specs.Row.{noText, fieldsOf, messageOf, typeOf}
+use Rattle.fields.proofs.Ids.{value-good}
 use Rattle.message.specs.Table.{payloadOf, tooShort}
 use Rattle.message.specs.declared.kinds.Message.{Message}
-use Rattle.book.specs.Applying.{messageIn, topicOf}
-
+use Rattle.book.specs.Applying.{messageIn, topicOf, orderOf, insideOf}
 -- ---- going by a test
 
-module _ {A : Type 0} (P : A → Type 0) where
-  pub pick : (b : Bool) {x y : A} → (b ≡ true → P x) → (b ≡ false → P y) → P (cond b x y)
-  pick true f g = f refl
-  pick false f g = g refl
+pub use Rattle.book_index.proofs.Below.{pick, split}
 
-pub split : (m n : ℕ) {P : Type 0} → (m ≡ n → P) → (m ≢ n → P) → P
-split m n {P} f g = by (eqb m n) refl
-  where
-    by : (b : Bool) → eqb m n ≡ b → P
-    by true e = f (eqb-true m n e)
-    by false e = g (eqb-false m n e)
+pub no : {A : Type 0} → false ≡ true → A
+no e = let z : _≡_ {A = ℕ} 0 1 = ap (λ (b : Bool). cond b 1 0) e in absurd (omega arith)
 
--- ---- an id's number
+-- ---- an id's answer
 
-value-cases : (id : List ℕ) (b : Bool) → goodId id ≡ b → not (eqb (cond b (valueOf 12 id) noValue) noValue) ≡ b
-unfolding goodId
-value-cases id true good =
-    let small : valueOf 12 id < 36 ^ 12 = value-below id 12 good in
-    simp (ne-eqb (valueOf 12 id) noValue (λ e. omega arith))
-value-cases id false bad = refl
-
--- an id is good exactly where it has a value
-pub key-good : (id : List ℕ) {key : ℕ} → key ≡ numberOf id → not (eqb key noValue) ≡ goodId id
-unfolding numberOf
-key-good id e = ap (λ (k : ℕ). not (eqb k noValue)) e ∙ value-cases id (goodId id) refl
+pub valued : (id : List ℕ) → goodId id ≡ true → numberOf id ≢ noValue
+valued id good e = no (ap not (sym (eq-eqb _ _ e)) ∙ value-good id refl ∙ good)
 
 answer-cases : (id : List ℕ) (b : Bool) {v n : ℕ}
     → (cond b (Value (valueOf 12 id)) (Refused 12) ≡ Value v → v ≡ cond b (valueOf 12 id) noValue)
@@ -136,6 +119,28 @@ module _ (k : ℕ) (s : List ℕ) where
       λ f. pick (Typed k) (eqb k 26) (λ e. sym (eqb-true k 26 e))
       λ f. pick (Typed k) (eqb k 27) (λ e. sym (eqb-true k 27 e)) (λ e. refl)
 
+-- ---- a message of a known type
+
+module _ (s : List ℕ) where
+  pub of-type : (k : ℕ) → typeOf (messageIn s) ≡ k → messageIn s ≡ fieldsOf k s
+  of-type k e = ap (λ (j : ℕ). fieldsOf j s) (sym (type-kept (typeIn s) s) ∙ e)
+
+  -- the order that an Add makes has the value of the id that it names
+  pub made-id : typeOf (messageIn s) ≡ 21 → orderOf (messageIn s) .id ≡ numberOf (messageIn s .id)
+  unfolding orderOf fieldsOf messageOf layoutOf
+  made-id e =
+      let is = of-type 21 e in
+      let made : orderOf (fieldsOf 21 s) .id ≡ numberOf (fieldsOf 21 s .id) = refl in
+      ap (λ (x : Message). orderOf x .id) is ∙ made ∙ ap (λ (x : Message). numberOf (x .id)) (sym is)
+
+  -- the inside that a Top of Book tells has the symbol that it names
+  pub told-topic : typeOf (messageIn s) ≡ 26 → insideOf (messageIn s) .symbol ≡ topicOf (messageIn s)
+  unfolding insideOf fieldsOf messageOf layoutOf
+  told-topic e =
+      let is = of-type 26 e in
+      let top : insideOf (fieldsOf 26 s) .symbol ≡ topicOf (fieldsOf 26 s) = refl in
+      ap (λ (x : Message). insideOf x .symbol) is ∙ top ∙ ap topicOf (sym is)
+
 -- ---- the type that a message's bytes say
 
 module _ (s : List ℕ) {t : ℕ} (is : t ≡ typeIn s) where
@@ -147,12 +152,6 @@ module _ (s : List ℕ) {t : ℕ} (is : t ≡ typeIn s) where
 
   pub type-read : typeOf (messageIn s) ≡ t
   type-read = type-kept (typeIn s) s ∙ sym is
-
-  pub topic-room : t ≡ 26 → tooShort (typeIn s) (length s) ≡ false → 21 ≤ length s
-  unfolding payloadOf
-  topic-room e h =
-      let r = room 26 (length s) e refl (typed-room h) in
-      omega arith
 
   pub topic-is : t ≡ 26 → part s 7 14 ≡ topicOf (messageIn s)
   unfolding fieldsOf messageOf layoutOf

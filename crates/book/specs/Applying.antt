@@ -5,18 +5,20 @@ use mathlib.Core.Bool.{Bool, false, cond, not, _&&_}
 use mathlib.Core.List.{List, [], _∷_, _++_}
 use Prim.Native.Nat.{ℕ, _+_, _-_, _≤_}
 use lib.Dec.{eqb, leb, ltb}
-use lib.ListN.{length, getD, take, set}
+use lib.ListN.{length, getD, set}
 use Rattle.wire.specs.Choice.{firstOf, listedAt}
 use Rattle.wire.specs.Layout.{numberIn, textIn}
 use Rattle.wire.specs.Number.{part}
 use Rattle.fields.specs.Id.{numberOf}
+use Rattle.book_index.specs.Changes.{without}
 use Rattle.message.specs.Layouts.{sizeIn, typeIn}
 use Rattle.message.specs.Row.{noText, fieldsOf, typeOf, rowOf}
 use Rattle.message.specs.Rules.{goodMessage}
 use Rattle.message.specs.Table.{payloadOf, tooShort}
+use Rattle.message.specs.Whole.{Whole}
 use Rattle.message.specs.declared.kinds.Message.{Message}
-use Rattle.book.specs.Lookup.{isAt, spotOf, keyAt, symbolAt}
-use Rattle.book.specs.Tables.{Tables, blank, idsOf, frontsOf, backsOf}
+use Rattle.book.specs.Lookup.{isAt, placeFound, keyAt, symbolAt}
+use Rattle.book.specs.Tables.{Tables, withOrders, withInsides, withCode, withFaults, blank, idsOf, frontsOf, backsOf}
 use Rattle.book.specs.declared.lookup.Found.{Found}
 use Rattle.book.specs.declared.tables.Order.{Order}
 use Rattle.book.specs.declared.tables.Inside.{Inside}
@@ -24,13 +26,6 @@ use Rattle.book.specs.declared.tables.Faults.{Faults}
 use Rattle.book.specs.declared.deciding.Seen.{Seen}
 use Rattle.book.specs.declared.deciding.Effect.{Effect}
 use Rattle.book.specs.declared.deciding.Effect.the-variants.{Put, Replace, Remove, Renew, Enter, Record, Unchanged, Fault}
-
--- bytes that are one whole message: 3 to 128, as many as MessageSize says, and not too short for a listed type
-pub record Whole (s : List ℕ) : Type 0 where
-  pub least : 3 ≤ length s
-  pub most : length s ≤ 128
-  pub told : sizeIn s ≡ length s
-  pub enough : tooShort (typeIn s) (length s) ≡ false
 
 abbrev pub messageIn : List ℕ → Message
 messageIn s = fieldsOf (typeIn s) s
@@ -50,7 +45,7 @@ abbrev pub topicOf : Message → List ℕ
 topicOf m = cond (eqb (typeOf m) 26) (m .symbol) noText
 
 abbrev pub thereOf : List Order → Found → Order
-thereOf orders found = getD orders (spotOf found) blank
+thereOf orders found = getD orders (placeFound found) blank
 
 abbrev pub orderSeen : Tables → Message → Found
 orderSeen t m = keyAt (numberOf (m .id)) (idsOf (t .orders))
@@ -71,13 +66,20 @@ names type = leb 22 type && leb type 25
 abbrev pub executes : ℕ → Bool
 executes type = leb 24 type && leb type 25
 
+-- the rule for types that are not in the table: under the strict one, such a message is fault 1
+pub data Rule : Type 0 where
+  strict : Rule
+
+abbrev pub unlistedUnder : Rule → Effect
+unlistedUnder strict = Fault 1
+
 -- "The lowest reason that holds is given": each fault, and when
-abbrev pub faults : Seen → Message → List (Bool × Effect)
-faults seen m =
+abbrev pub faultsUnder : Rule → Seen → Message → List (Bool × Effect)
+faultsUnder rule seen m =
     let type = typeOf m in
     let executed = numberIn (rowOf m) 2 in
     let remaining = numberIn (rowOf m) 3 in
-    (eqb (payloadOf type) 255, Fault 1)
+    (eqb (payloadOf type) 255, unlistedUnder rule)
     ∷ (not (goodMessage m), Fault 2)
     ∷ (eqb type 21 && isAt (seen .order), Fault 3)
     ∷ (eqb type 21 && leb 256 (seen .live), Fault 4)
@@ -91,8 +93,8 @@ faults seen m =
 abbrev pub executionOf : Seen → ℕ → Effect
 executionOf seen executed =
     cond (eqb (seen .shares - executed) 0)
-    (Remove (spotOf (seen .order)))
-    (Replace (spotOf (seen .order)) (seen .shares - executed) (seen .price))
+    (Remove (placeFound (seen .order)))
+    (Replace (placeFound (seen .order)) (seen .shares - executed) (seen .price))
 
 -- what a message does where no fault holds; 27, 28, 9, 11 and 12 change nothing
 abbrev pub changeOf : Seen → Message → Effect
@@ -101,16 +103,19 @@ changeOf seen m =
     listedAt (typeOf m)
     ((20, Record (n 1))
     ∷ (21, Put)
-    ∷ (22, Replace (spotOf (seen .order)) (n 2) (n 3))
-    ∷ (23, Remove (spotOf (seen .order)))
+    ∷ (22, Replace (placeFound (seen .order)) (n 2) (n 3))
+    ∷ (23, Remove (placeFound (seen .order)))
     ∷ (24, executionOf seen (n 2))
     ∷ (25, executionOf seen (n 2))
-    ∷ (26, cond (isAt (seen .inside)) (Renew (spotOf (seen .inside))) Enter)
+    ∷ (26, cond (isAt (seen .inside)) (Renew (placeFound (seen .inside))) Enter)
     ∷ [])
     Unchanged
 
+abbrev pub effectUnder : Rule → Seen → Message → Effect
+effectUnder rule seen m = firstOf (faultsUnder rule seen m) (changeOf seen m)
+
 unfoldable pub effectOf : Seen → Message → Effect
-effectOf seen m = firstOf (faults seen m) (changeOf seen m)
+effectOf seen m = effectUnder strict seen m
 
 -- the order that an Add makes
 unfoldable pub orderOf : Message → Order
@@ -130,10 +135,6 @@ abbrev pub repriced : Order → ℕ → ℕ → Order
 repriced o shares price =
     record { id = o .id; price = price; shares = shares; firm = o .firm; symbol = o .symbol; side = o .side; unsolicited = o .unsolicited }
 
--- an order leaves: the last one takes its place
-unfoldable pub without : {A : Type 0} → A → ℕ → List A → List A
-without blank place xs = take (length xs - 1) (set xs place (getD xs (length xs - 1) blank))
-
 -- the first fault's number and reason are kept, and every fault is counted
 unfoldable pub faulted : Faults → ℕ → ℕ → Faults
 faulted f number reason =
@@ -141,13 +142,7 @@ faulted f number reason =
     (record { number = number; count = 1; reason = reason })
     (record { number = f .number; count = f .count + 1; reason = f .reason })
 
-abbrev pub withOrders : Tables → List Order → Tables
-withOrders t orders = record { orders = orders; insides = t .insides; code = t .code; faults = t .faults }
-
-abbrev pub withInsides : Tables → List Inside → Tables
-withInsides t insides = record { orders = t .orders; insides = insides; code = t .code; faults = t .faults }
-
--- the tables behind an effect of the message of a number
+-- the tables behind an effect of the message of a number; an order that leaves gives its place to the last one
 abbrev pub carried : Tables → ℕ → Message → Effect → Tables
 carried t number m Put = withOrders t (t .orders ++ (orderOf m ∷ []))
 carried t number m (Replace place shares price) =
@@ -155,14 +150,16 @@ carried t number m (Replace place shares price) =
 carried t number m (Remove place) = withOrders t (without blank place (t .orders))
 carried t number m (Renew place) = withInsides t (set (t .insides) place (insideOf m))
 carried t number m Enter = withInsides t (t .insides ++ (insideOf m ∷ []))
-carried t number m (Record code) = record { orders = t .orders; insides = t .insides; code = code; faults = t .faults }
+carried t number m (Record code) = withCode t code
 carried t number m Unchanged = t
-carried t number m (Fault reason) =
-    record { orders = t .orders; insides = t .insides; code = t .code; faults = faulted (t .faults) number reason }
+carried t number m (Fault reason) = withFaults t (faulted (t .faults) number reason)
 
--- the effect of a message on the tables, and the tables behind it
+-- the effect of a message on the tables, and the tables behind it: the feed goes by the strict rule
 abbrev pub effectIn : Tables → List ℕ → Effect
 effectIn t s = effectOf (seenOf t (messageIn s)) (messageIn s)
 
-unfoldable pub applyOf : Tables → ℕ → List ℕ → Tables
-applyOf t number s = carried t number (messageIn s) (effectIn t s)
+unfoldable pub applyUnder : Rule → Tables → ℕ → List ℕ → Tables
+applyUnder rule t number s = carried t number (messageIn s) (effectUnder rule (seenOf t (messageIn s)) (messageIn s))
+
+abbrev pub applyOf : Tables → ℕ → List ℕ → Tables
+applyOf = applyUnder strict

@@ -9,7 +9,7 @@ use lib.ListN.{getD}
 use Rattle.wire.specs.Choice.{firstOf}
 use Rattle.fields.specs.Id.{goodId, numberOf}
 use Rattle.fields.specs.Rules.{goodSymbol, goodSide}
-use Rattle.book.specs.Lookup.{isAt, spotOf, keyAt, symbolAt, sameSymbol}
+use Rattle.book.specs.Lookup.{isAt, placeFound, keyAt, symbolAt, sameSymbol}
 use Rattle.book.specs.Tables.{Tables, blank, gone, noOrder, noInside, idsOf, frontsOf, backsOf}
 use Rattle.book.specs.declared.tables.Order.{Order}
 use Rattle.book.specs.declared.asking.Reply.the-variants.{Known, Refused}
@@ -30,7 +30,7 @@ orderAsked t id =
     ((not (goodId id), noOrderFor 12)
     ∷ (not (isAt found), noOrderFor 13)
     ∷ [])
-    (record { reply = Known; order = getD (t .orders) (spotOf found) blank })
+    (record { reply = Known; order = getD (t .orders) (placeFound found) blank })
 
 -- ---- the inside by symbol: likewise
 
@@ -44,7 +44,7 @@ insideAsked t symbol =
     ((not (goodSymbol symbol), noInsideFor 12)
     ∷ (not (isAt found), noInsideFor 13)
     ∷ [])
-    (record { reply = Known; inside = getD (t .insides) (spotOf found) gone })
+    (record { reply = Known; inside = getD (t .insides) (placeFound found) gone })
 
 -- ---- by symbol and side: the best price, the sum of shares there and the number of orders
 

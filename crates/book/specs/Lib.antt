@@ -4,3 +4,4 @@ pub mod Tables
 pub mod Applying
 pub mod Rule
 pub mod Asking
+pub mod Named

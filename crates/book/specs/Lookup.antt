@@ -14,9 +14,9 @@ abbrev pub isAt : Found → Bool
 isAt (At place) = true
 isAt Nothing = false
 
-abbrev pub spotOf : Found → ℕ
-spotOf (At place) = place
-spotOf Nothing = 0
+abbrev pub placeFound : Found → ℕ
+placeFound (At place) = place
+placeFound Nothing = 0
 
 -- the first place from k on that has the key
 unfoldable pub keyFrom : ℕ → ℕ → List ℕ → Found

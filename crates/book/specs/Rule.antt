@@ -1,15 +1,15 @@
 -- The rule of a book: what an opening gives and every message keeps. It is all that a contract takes for granted.
 -- Assumes nothing.
 use mathlib.Core.Path.{_≡_}
-use mathlib.Core.Logic.{_≢_}
 use mathlib.Core.Bool.{true, false, _&&_, _||_}
 use mathlib.Core.List.{List}
 use Prim.Native.Nat.{ℕ, _≤_, _<_}
 use lib.Dec.{eqb}
 use lib.ListN.{length, getD}
+pub use Rattle.book_index.specs.Chains.{Distinct}
 use Rattle.fields.specs.Rules.{goodSymbol, goodSide, goodQuantity, goodPrice, goodInsidePrice, goodUnsolicited, goodSession}
 use Rattle.book.specs.Tables.{Tables, idsOf, frontsOf, backsOf, rep, view, blank, noInside}
-use Rattle.book.specs.Applying.{Whole}
+use Rattle.message.specs.Whole.{Whole}
 use Rattle.book.specs.declared.tables.Order.{Order}
 use Rattle.book.specs.declared.tables.Inside.{Inside}
 use Rattle.book.specs.declared.tables.Book.{Book}
@@ -27,10 +27,6 @@ pub record GoodInside (i : Inside) : Type 0 where
   pub ask : goodInsidePrice (i .ask) ≡ true
   pub bid : goodInsidePrice (i .bid) ≡ true
   pub unsolicited : goodUnsolicited (i .unsolicited) ≡ true
-
--- no two are the same
-abbrev pub Distinct : List ℕ → Type 0
-Distinct xs = (i j : ℕ) → i < j → j < length xs → getD xs i 0 ≢ getD xs j 0
 
 -- no two have both numbers the same: of a symbol's two numbers, no two symbols are the same
 abbrev pub Apart : List ℕ → List ℕ → Type 0

@@ -23,6 +23,19 @@ noFaults = record { number = 0; count = 0; reason = 0 }
 abbrev pub fresh : Tables
 fresh = record { orders = []; insides = []; code = 0; faults = noFaults }
 
+-- tables with one part other than it was, and every other part as it was
+abbrev pub withOrders : Tables → List Order → Tables
+withOrders t orders = record { orders = orders; insides = t .insides; code = t .code; faults = t .faults }
+
+abbrev pub withInsides : Tables → List Inside → Tables
+withInsides t insides = record { orders = t .orders; insides = insides; code = t .code; faults = t .faults }
+
+abbrev pub withCode : Tables → ℕ → Tables
+withCode t code = record { orders = t .orders; insides = t .insides; code = code; faults = t .faults }
+
+abbrev pub withFaults : Tables → Faults → Tables
+withFaults t faults = record { orders = t .orders; insides = t .insides; code = t .code; faults = faults }
+
 -- what a place holds that is not used
 abbrev pub noOrder : Order
 noOrder = record { id = 0; price = 0; shares = 0; firm = replicate 4 0; symbol = replicate 14 0; side = 0; unsolicited = 0 }
@@ -49,6 +62,19 @@ frontsOf = map (λ i. frontOf (i .symbol))
 
 abbrev pub backsOf : List Inside → List ℕ
 backsOf = map (λ i. backOf (i .symbol))
+
+-- a book with the parts of one table other than they were, or the code and the faults
+abbrev pub holdingOrders : Book → List Order → List ℕ → ℕ → Book
+holdingOrders b orders keys live =
+    record { orders = orders; keys = keys; live = live; insides = b .insides; fronts = b .fronts; backs = b .backs; held = b .held; code = b .code; faults = b .faults }
+
+abbrev pub holdingInsides : Book → List Inside → List ℕ → List ℕ → ℕ → Book
+holdingInsides b insides fronts backs held =
+    record { orders = b .orders; keys = b .keys; live = b .live; insides = insides; fronts = fronts; backs = backs; held = held; code = b .code; faults = b .faults }
+
+abbrev pub holdingMarks : Book → ℕ → Faults → Book
+holdingMarks b code faults =
+    record { orders = b .orders; keys = b .keys; live = b .live; insides = b .insides; fronts = b .fronts; backs = b .backs; held = b .held; code = code; faults = faults }
 
 -- the one book that holds given tables
 abbrev pub rep : Tables → Book

@@ -115,7 +115,7 @@ fn better(side: u8, price: u64, other: u64) -> bool
     }
 }
 
-fn of(order: Order, symbol: [u8; 14], side: u8) -> bool
+fn belongs(order: Order, symbol: [u8; 14], side: u8) -> bool
     ensures { λ r. ⌜ r ≡ isOf symbol side order ⌝ }
 {
     let listed = order.symbol;
@@ -131,7 +131,7 @@ fn join(symbol: [u8; 14], side: u8, order: Order, level: Level) -> Level
     requires { ⌜ Room level ⌝ }
     ensures { λ r. ⌜ Joins symbol side order level r ⌝ }
 {
-    if !of(order, symbol, side) {
+    if !belongs(order, symbol, side) {
         return level;
     }
     let alone = Level {

@@ -2,19 +2,14 @@
 use crate::judging::added;
 use crate::judging::deleted;
 use crate::judging::executed;
-use crate::judging::good_add;
-use crate::judging::good_update;
 use crate::judging::kept;
-use crate::judging::named;
 use crate::judging::shown;
 use crate::judging::updated;
 use crate::lookup::Found;
 use crate::tables::Order;
-use fields::rules::good_quantity;
-use fields::rules::good_session;
-use message::rules::both;
-use message::rules::good_top;
-use message::rules::good_trade;
+use fields::parts::is_value;
+use message::layouts;
+use message::rules;
 ghost use mathlib.Core.Path.{_≡_};
 ghost use Prim.Native.Nat.{_≤_};
 ghost use lib.ListN.{length};
@@ -67,89 +62,85 @@ fn session(bytes: &[u8], seen: Seen) -> Effect
     requires { ⌜ 12 ≤ length (now bytes) ⌝ }
     ensures { λ r. ⌜ r ≡ effectOf seen (fieldsOf 20 (now (bytes .entry))) ⌝ }
 {
-    let session = wire::u8_at(bytes, 11);
-    let good = good_session(session);
-    kept(good, Effect::Record(session))
+    let fields = layouts::trading_session(bytes);
+    let broken = rules::trading_session(fields.session);
+    kept(broken == 0, Effect::Record(fields.session))
 }
 
 fn add(bytes: &[u8], key: u64, seen: Seen) -> Effect
     requires { ⌜ Naming 55 (now bytes) key ⌝ }
     ensures { λ r. ⌜ r ≡ effectOf seen (fieldsOf 21 (now (bytes .entry))) ⌝ }
 {
-    let side = wire::u8_at(bytes, 21);
-    let quantity = wire::u32_at(bytes, 22);
-    let symbol = wire::text14_at(bytes, 26);
-    let price = wire::u64_at(bytes, 40);
-    let unsolicited = wire::u8_at(bytes, 52);
-    let good = good_add(key, side, quantity, symbol, price, unsolicited);
+    let fields = layouts::add(bytes);
+    let symbol = fields.symbol;
+    let broken = rules::add(
+        is_value(key),
+        fields.side,
+        fields.quantity,
+        symbol,
+        fields.price,
+        fields.unsolicited,
+    );
     let order = seen.order;
-    added(good, order, seen.live)
+    added(broken == 0, order, seen.live)
 }
 
 fn update(bytes: &[u8], key: u64, seen: Seen) -> Effect
     requires { ⌜ Naming 35 (now bytes) key ⌝ }
     ensures { λ r. ⌜ r ≡ effectOf seen (fieldsOf 22 (now (bytes .entry))) ⌝ }
 {
-    let quantity = wire::u32_at(bytes, 21);
-    let price = wire::u64_at(bytes, 25);
-    let good = good_update(key, quantity, price);
+    let fields = layouts::update(bytes);
+    let broken = rules::update(is_value(key), fields.quantity, fields.price);
     let order = seen.order;
-    updated(good, order, quantity, price)
+    updated(broken == 0, order, fields.quantity, fields.price)
 }
 
 fn delete(bytes: &[u8], key: u64, seen: Seen) -> Effect
     requires { ⌜ Naming 21 (now bytes) key ⌝ }
     ensures { λ r. ⌜ r ≡ effectOf seen (fieldsOf 23 (now (bytes .entry))) ⌝ }
 {
-    let good = named(key);
+    let broken = rules::delete(is_value(key));
     let order = seen.order;
-    deleted(good, order)
+    deleted(broken == 0, order)
 }
 
 fn execution(bytes: &[u8], key: u64, seen: Seen) -> Effect
     requires { ⌜ Naming 37 (now bytes) key ⌝ }
     ensures { λ r. ⌜ r ≡ effectOf seen (fieldsOf 24 (now (bytes .entry))) ⌝ }
 {
-    let shares = wire::u32_at(bytes, 21);
-    let remaining = wire::u32_at(bytes, 25);
-    let good = both(named(key), good_quantity(shares));
-    executed(good, seen, shares, remaining)
+    let fields = layouts::execution(bytes);
+    let broken = rules::execution(is_value(key), fields.executed);
+    executed(broken == 0, seen, fields.executed, fields.remaining)
 }
 
 fn priced(bytes: &[u8], key: u64, seen: Seen) -> Effect
     requires { ⌜ Naming 45 (now bytes) key ⌝ }
     ensures { λ r. ⌜ r ≡ effectOf seen (fieldsOf 25 (now (bytes .entry))) ⌝ }
 {
-    let shares = wire::u32_at(bytes, 21);
-    let remaining = wire::u32_at(bytes, 25);
-    let price = wire::u64_at(bytes, 37);
-    let good = good_update(key, shares, price);
-    executed(good, seen, shares, remaining)
+    let fields = layouts::priced(bytes);
+    let broken = rules::priced(is_value(key), fields.executed, fields.price);
+    executed(broken == 0, seen, fields.executed, fields.remaining)
 }
 
 fn top(bytes: &[u8], seen: Seen) -> Effect
     requires { ⌜ 46 ≤ length (now bytes) ⌝ }
     ensures { λ r. ⌜ r ≡ effectOf seen (fieldsOf 26 (now (bytes .entry))) ⌝ }
 {
-    let symbol = wire::text14_at(bytes, 7);
-    let ask = wire::u64_at(bytes, 21);
-    let bid = wire::u64_at(bytes, 33);
-    let unsolicited = wire::u8_at(bytes, 45);
-    let good = good_top(symbol, ask, bid, unsolicited);
+    let fields = layouts::top(bytes);
+    let symbol = fields.symbol;
+    let broken = rules::top(symbol, fields.ask, fields.bid, fields.unsolicited);
     let inside = seen.inside;
-    shown(good, inside, seen.held)
+    shown(broken == 0, inside, seen.held)
 }
 
 fn trade(bytes: &[u8], seen: Seen) -> Effect
     requires { ⌜ 50 ≤ length (now bytes) ⌝ }
     ensures { λ r. ⌜ r ≡ effectOf seen (fieldsOf 27 (now (bytes .entry))) ⌝ }
 {
-    let side = wire::u8_at(bytes, 7);
-    let quantity = wire::u32_at(bytes, 8);
-    let symbol = wire::text14_at(bytes, 12);
-    let price = wire::u64_at(bytes, 26);
-    let good = good_trade(symbol, side, quantity, price);
-    kept(good, Effect::Unchanged)
+    let fields = layouts::trade(bytes);
+    let symbol = fields.symbol;
+    let broken = rules::trade(fields.side, fields.quantity, symbol, fields.price);
+    kept(broken == 0, Effect::Unchanged)
 }
 
 // The effect of a whole message on what is seen of the tables.

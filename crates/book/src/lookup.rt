@@ -1,17 +1,15 @@
 // Parts: where an order is live and where an inside is held, over the numbers that stand beside them.
 use crate::tables::Book;
+use fields::parts::NONE;
 ghost use mathlib.Core.Path.{_≡_};
 ghost use Prim.Native.Nat.{_≤_};
 ghost use lib.ListN.{length, take};
-ghost use Rattle.book.specs.Lookup.{frontOf, backOf, keyAt, spotOf, symbolAt, sameSymbol};
+ghost use Rattle.book.specs.Lookup.{frontOf, backOf, keyAt, placeFound, symbolAt, sameSymbol};
 
 pub enum Found {
     At(usize),
     Nothing,
 }
-
-// One above the largest value of an id: no order has it.
-pub const NONE: u64 = 4_738_381_338_321_616_896;
 
 pub fn find(keys: &[u64; Book::ORDERS], live: usize, key: u64) -> Found
     requires { ⌜ (live ≤ 256) × (length (now keys) ≡ 256) ⌝ }
@@ -31,8 +29,8 @@ pub fn find(keys: &[u64; Book::ORDERS], live: usize, key: u64) -> Found
 }
 
 // The place that a look-up found, or the first where it found none.
-pub fn spot(found: Found) -> usize
-    ensures { λ r. ⌜ r ≡ spotOf found ⌝ }
+pub fn place_found(found: Found) -> usize
+    ensures { λ r. ⌜ r ≡ placeFound found ⌝ }
 {
     match found {
         Found::At(place) => place,

@@ -1,22 +1,26 @@
 // Parts: what a whole message names and makes. `digits` is the digit table, copied once and lent.
-use crate::lookup::NONE;
 use crate::tables::Inside;
 use crate::tables::Order;
 use fields::id::IdValue;
+use fields::parts::NONE;
 use fields::parts::value_with;
+use message::layouts;
 ghost use mathlib.Core.Path.{_≡_};
 ghost use Prim.Native.Nat.{_≤_};
 ghost use lib.ListN.{length};
 ghost use Rattle.wire.specs.Number.{part};
 ghost use Rattle.fields.specs.Id.{digitTable, numberOf};
 ghost use Rattle.message.specs.Row.{fieldsOf};
-ghost use Rattle.book.specs.Applying.{Whole, Naming, messageIn, topicOf, orderOf, insideOf};
+ghost use Rattle.message.specs.Whole.{Whole};
+ghost use Rattle.book.specs.Applying.{Naming, messageIn, topicOf, orderOf, insideOf};
 
+// 21 to 25 begin as an Order Delete does: the time, then the id.
 fn key_at(digits: &[u8; 256], bytes: &[u8]) -> u64
     requires { ⌜ (now digits ≡ digitTable) × (21 ≤ length (now bytes)) ⌝ }
     ensures { λ r. ⌜ r ≡ numberOf (part (now (bytes .entry)) 7 14) ⌝ }
 {
-    let id = wire::text14_at(bytes, 7);
+    let fields = layouts::delete(bytes);
+    let id = fields.id;
     match value_with(digits, id) {
         IdValue::Value(key) => key,
         IdValue::Refused(_) => NONE,
@@ -42,7 +46,9 @@ pub fn topic_of(bytes: &[u8]) -> [u8; 14]
 {
     let kind = wire::u8_at(bytes, 2);
     if kind == 26 {
-        return wire::text14_at(bytes, 7);
+        let fields = layouts::top(bytes);
+        let symbol = fields.symbol;
+        return symbol;
     }
     [0u8; 14]
 }
@@ -52,20 +58,17 @@ pub fn order_of(bytes: &[u8], key: u64) -> Order
     requires { ⌜ Naming 55 (now bytes) key ⌝ }
     ensures { λ r. ⌜ r ≡ orderOf (fieldsOf 21 (now (bytes .entry))) ⌝ }
 {
-    let side = wire::u8_at(bytes, 21);
-    let shares = wire::u32_at(bytes, 22);
-    let symbol = wire::text14_at(bytes, 26);
-    let price = wire::u64_at(bytes, 40);
-    let firm = wire::text4_at(bytes, 48);
-    let unsolicited = wire::u8_at(bytes, 52);
+    let fields = layouts::add(bytes);
+    let firm = fields.firm;
+    let symbol = fields.symbol;
     Order {
         id: key,
-        price,
-        shares,
+        price: fields.price,
+        shares: fields.quantity,
         firm,
         symbol,
-        side,
-        unsolicited,
+        side: fields.side,
+        unsolicited: fields.unsolicited,
     }
 }
 
@@ -74,20 +77,15 @@ pub fn inside_of(bytes: &[u8]) -> Inside
     requires { ⌜ 46 ≤ length (now bytes) ⌝ }
     ensures { λ r. ⌜ r ≡ insideOf (fieldsOf 26 (now (bytes .entry))) ⌝ }
 {
-    let time = wire::u32_at(bytes, 3);
-    let symbol = wire::text14_at(bytes, 7);
-    let ask = wire::u64_at(bytes, 21);
-    let askvolume = wire::u32_at(bytes, 29);
-    let bid = wire::u64_at(bytes, 33);
-    let bidvolume = wire::u32_at(bytes, 41);
-    let unsolicited = wire::u8_at(bytes, 45);
+    let fields = layouts::top(bytes);
+    let symbol = fields.symbol;
     Inside {
-        ask,
-        bid,
-        time,
-        askvolume,
-        bidvolume,
+        ask: fields.ask,
+        bid: fields.bid,
+        time: fields.time,
+        askvolume: fields.askvolume,
+        bidvolume: fields.bidvolume,
         symbol,
-        unsolicited,
+        unsolicited: fields.unsolicited,
     }
 }

@@ -1,6 +1,5 @@
 // Replays a capture on standard input: a line a packet, then the gaps.
 mod lines;
-mod records;
 
 use records::HEAD;
 use session::asking;

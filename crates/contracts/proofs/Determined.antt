@@ -1,7 +1,13 @@
 -- Each call's contract determines its answer, and the later content of all memory that it was lent.
 -- Assumes nothing.
-use mathlib.Core.Path.{_≡_, _∙_, sym}
+use mathlib.Core.Path.{_≡_, refl, _∙_, sym}
+use base.Logic.{emp}
+use borrow.Fn.Claims.{AllOf}
+use borrow.Fn.Read.{Read, all-models, no-know, r-last}
+use borrow.Fn.World.{Pr, World}
 use denote.Ref.{now}
+use Rattle.packet_reader.specs.Cursors.{lent}
+use Rattle.packet_reader.specs.Steps.{seen}
 use Rattle.fields.proofs.id.value.Reads as fields-value
 use Rattle.fields.proofs.id.good_id.Reads as fields-good-id
 use Rattle.fields.proofs.rules.good_symbol.Reads as fields-good-symbol
@@ -13,12 +19,16 @@ use Rattle.fields.proofs.rules.good_inside_price.Reads as fields-good-inside-pr
 use Rattle.fields.proofs.rules.good_unsolicited.Reads as fields-good-unsolicited
 use Rattle.fields.proofs.rules.good_session.Reads as fields-good-session
 use Rattle.message.proofs.read.Reads as message-read
-use Rattle.writing.proofs.write.Reads as writing-write
+use Rattle.message_write.proofs.write.Reads as writing-write
 use Rattle.packet.proofs.write_header.Reads as packet-write-header
 use Rattle.packet.proofs.read_header.Reads as packet-read-header
 use Rattle.packet.proofs.judge.judge.Reads as packet-judge
-use Rattle.reader.proofs.judge.judge.Reads as reader-judge
-use Rattle.reader.proofs.frame_of.Reads as reader-frame-of
+use Rattle.packet_reader.proofs.judge.judge.Reads as reader-judge
+use Rattle.packet_reader.proofs.frame_of.Reads as reader-frame-of
+use Rattle.packet_reader.proofs.message_of.Reads as reader-message-of
+use Rattle.packet_reader.proofs.read.open as reader-open
+use Rattle.packet_reader.proofs.read.refusal as reader-refusal
+use Rattle.packet_reader.proofs.read.step as reader-step
 use Rattle.book.proofs.tables.Book.fresh.Reads as book-fresh
 use Rattle.book.proofs.asking.order.Reads as book-order
 use Rattle.book.proofs.asking.best.Reads as book-best
@@ -37,6 +47,10 @@ use Rattle.session.proofs.asking.best.Reads as session-best
 use Rattle.session.proofs.asking.inside.Reads as session-inside
 use Rattle.session.proofs.asking.gap.Reads as session-gap
 use Rattle.session.proofs.asking.requests.Reads as session-requests
+use Rattle.replay.proofs.replay_value.Reads as replay-value
+use Rattle.replay.proofs.replay_header.Reads as replay-header
+use Rattle.replay.proofs.replay_write_header.Reads as replay-write-header
+use Rattle.replay.proofs.replay_message.Reads as replay-message
 
 -- of any two answers that a contract admits for one argument, both are the same
 abbrev Once : {K : Type 0} {A R S : K → Type 0} → ((κs : K) → A κs → R κs → S κs → Type 0) → Type 0
@@ -113,6 +127,32 @@ reader-judge-once κs a one other s t = once
 pub reader-frame-of-once : Once reader-frame-of.Post
 reader-frame-of-once κs a one other s t = once
 
+-- where the part lies and what it holds; the loan's own name is the checker's matter
+pub reader-message-of-once : (κs : _) (a : _) (one other : _) (s t : _) → reader-message-of.Post κs a one s → reader-message-of.Post κs a other t → lent one ≡ lent other
+reader-message-of-once κs a one other s t = once
+
+-- The walks by hand have no `Post`. In its place stands what their one clause tells, at every model of the logic.
+abbrev Told : ((w : World) → Pr w) → Type 2
+Told clause = Read (λ w. emp (w .𝓤)) no-know clause
+
+abbrev open-told : (κs : _) (packet : _) (both : _) (r : _) → Told (λ w. reader-open.ensures-1 (w .𝓤) (w .H) κs (w .𝓖 .A) (w .𝓜 .mem) (w .𝓡 .run) packet both r)
+open-told κs packet both r = all-models (λ w. reader-open.ensures-1 (w .𝓤) (w .H) κs (w .𝓖 .A) (w .𝓜 .mem) (w .𝓡 .run) packet both r) (λ w. r-last _) (λ w. refl) (λ w. refl) (λ w. refl)
+
+abbrev refusal-told : (κs : _) (reader : _) (both : _) (r : _) → Told (λ w. reader-refusal.ensures-1 (w .𝓤) (w .H) κs (w .𝓖 .A) (w .𝓜 .mem) (w .𝓡 .run) reader both r)
+refusal-told κs reader both r = all-models (λ w. reader-refusal.ensures-1 (w .𝓤) (w .H) κs (w .𝓖 .A) (w .𝓜 .mem) (w .𝓡 .run) reader both r) (λ w. r-last _) (λ w. refl) (λ w. refl) (λ w. refl)
+
+abbrev step-told : (κs : _) (reader : _) (both : _) (r : _) → Told (λ w. reader-step.ensures-1 (w .𝓤) (w .H) κs (w .𝓖 .A) (w .𝓜 .mem) (w .𝓡 .run) reader both r)
+step-told κs reader both r = all-models (λ w. reader-step.ensures-1 (w .𝓤) (w .H) κs (w .𝓖 .A) (w .𝓜 .mem) (w .𝓡 .run) reader both r) (λ w. r-last _) (λ w. refl) (λ w. refl) (λ w. refl)
+
+pub reader-open-once : (κs : _) (packet : _) (both : _) (one other : _) → AllOf (open-told κs packet both one .tells) → AllOf (open-told κs packet both other .tells) → one ≡ other
+reader-open-once κs packet both one other = once
+
+pub reader-refusal-once : (κs : _) (reader : _) (both : _) (one other : _) → AllOf (refusal-told κs reader both one .tells) → AllOf (refusal-told κs reader both other .tells) → one ≡ other
+reader-refusal-once κs reader both one other = once
+
+pub reader-step-once : (κs : _) (reader : _) (both : _) (one other : _) → AllOf (step-told κs reader both one .tells) → AllOf (step-told κs reader both other .tells) → seen one ≡ seen other
+reader-step-once κs reader both one other = once
+
 -- ---- book
 
 pub book-fresh-once : Once book-fresh.Post
@@ -176,3 +216,33 @@ session-requests-once κs a one other s t p q = once (p .0) (q .0)
 
 pub session-requests-memory : (κs : _) (a : _) (one other : _) (s t : _) → session-requests.Post κs a one s → session-requests.Post κs a other t → now (s .1 .0) ≡ now (t .1 .0)
 session-requests-memory κs a one other s t p q = once (p .1) (q .1)
+
+-- ---- replay: `replay_burst` and `replay_ask` are left out. Their contracts bound what is written and do not fix it: they
+-- serve the comparison from Rust, and the calls that they make are held above.
+
+pub replay-value-once : Once replay-value.Post
+replay-value-once κs a one other s t p q = once (p .0) (q .0)
+
+pub replay-value-memory : (κs : _) (a : _) (one other : _) (s t : _) → replay-value.Post κs a one s → replay-value.Post κs a other t → now (s .1 .0) ≡ now (t .1 .0)
+replay-value-memory κs a one other s t p q = once (p .1) (q .1)
+
+pub replay-header-once : Once replay-header.Post
+replay-header-once κs a one other s t p q = once (p .0) (q .0)
+
+pub replay-header-memory : (κs : _) (a : _) (one other : _) (s t : _) → replay-header.Post κs a one s → replay-header.Post κs a other t → now (s .1 .0) ≡ now (t .1 .0)
+replay-header-memory κs a one other s t p q = once (p .1) (q .1)
+
+pub replay-write-header-once : Once replay-write-header.Post
+replay-write-header-once κs a one other s t p q = once (p .0) (q .0)
+
+pub replay-write-header-memory : (κs : _) (a : _) (one other : _) (s t : _) → replay-write-header.Post κs a one s → replay-write-header.Post κs a other t → now (s .1 .1 .1 .1 .1 .0) ≡ now (t .1 .1 .1 .1 .1 .0)
+replay-write-header-memory κs a one other s t p q = once (p .1) (q .1)
+
+pub replay-message-once : Once replay-message.Post
+replay-message-once κs a one other s t p q = once (p .0) (q .0)
+
+pub replay-message-buffer : (κs : _) (a : _) (one other : _) (s t : _) → replay-message.Post κs a one s → replay-message.Post κs a other t → now (s .1 .0) ≡ now (t .1 .0)
+replay-message-buffer κs a one other s t p q = once (p .1 .0) (q .1 .0)
+
+pub replay-message-refusals : (κs : _) (a : _) (one other : _) (s t : _) → replay-message.Post κs a one s → replay-message.Post κs a other t → now (s .1 .1 .1 .0) ≡ now (t .1 .1 .1 .0)
+replay-message-refusals κs a one other s t p q = once (p .1 .1) (q .1 .1)

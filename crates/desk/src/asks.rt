@@ -1,185 +1,172 @@
 // The commands that ask a session: state, order, best, inside, requests.
+use crate::reads::bad;
 use crate::reads::text_of;
-use crate::show;
 use book::asking::BestReply;
 use book::asking::InsideReply;
 use book::asking::OrderReply;
 use book::asking::Reply;
 use book::tables::Faults;
+use book::tables::Inside;
+use book::tables::Order;
+use printing::answers::refusal;
+use printing::answers::refused;
+use printing::words::byte;
+use printing::words::bytes;
+use printing::words::digits;
+use printing::words::end;
+use printing::words::number;
+use printing::words::put;
+use printing::words::small;
 use session::asking;
 use session::state::Session;
-use text::number;
-use text::output;
-use text::words;
-use waiting::asking::Asked;
+use text::number::parse;
+use text::words::word;
+use window::asking::Asked;
 ghost use Prim.Native.Nat.{_≤_};
-ghost use lib.ListN.{length};
 ghost use Rattle.session.specs.Meaning.{Ruled};
 
 // `next`, `end`, the code and the count of faults; behind them the first fault, where there is one.
-pub fn state(session: Session, out: &mut [u8]) -> usize
-    requires { ⌜ Ruled session ⌝ }
-    ensures { λ r. ⌜ r ≤ length (now (out .exit)) ⌝ }
-{
-    let a = number::put(out, 0, asking::next(session));
-    let b = show::number(out, a, asking::end(session));
-    let c = show::byte(out, b, asking::code(session));
-    let d = faults(out, c, asking::faults(session));
-    show::end(out, d)
+pub fn state(session: Session) {
+    digits(asking::next(session));
+    number(asking::end(session));
+    byte(asking::code(session));
+    faults(asking::faults(session));
+    end();
 }
 
-fn faults(out: &mut [u8], at: usize, faults: Faults) -> usize
-    ensures { λ r. ⌜ r ≤ length (now (out .exit)) ⌝ }
-{
-    let a = show::number(out, at, faults.count);
-    if faults.count == 0 {
-        return a;
+fn faults(faults: Faults) {
+    number(faults.count);
+    if faults.count != 0 {
+        number(faults.number);
+        byte(faults.reason);
     }
-    let b = show::number(out, a, faults.number);
-    show::byte(out, b, faults.reason)
 }
 
-pub fn order(session: Session, line: &[u8], out: &mut [u8]) -> usize
+pub fn order(session: Session, line: &[u8])
     requires { ⌜ Ruled session ⌝ }
-    ensures { λ r. ⌜ r ≤ length (now (out .exit)) ⌝ }
 {
-    let id = text_of(words::word(line, 1));
+    let id = text_of(word(line, 1));
     if !id.good {
-        return show::bad(out);
+        return bad();
     }
     let text = id.text;
-    order_of(asking::order(session, text), out)
+    order_of(asking::order(session, text));
 }
 
-fn order_of(answer: OrderReply, out: &mut [u8]) -> usize
-    ensures { λ r. ⌜ r ≤ length (now (out .exit)) ⌝ }
-{
+fn order_of(answer: OrderReply) {
     let reply = answer.reply;
-    let order = answer.order;
+    match reply {
+        Reply::Refused(number) => refused(number),
+        Reply::Known => known(answer.order),
+    }
+}
+
+fn known(order: Order) {
     let symbol = order.symbol;
     let firm = order.firm;
-    match reply {
-        Reply::Refused(number) => show::refused(out, number),
-        Reply::Known => {
-            let front = [order.id, order.side as u64, order.shares as u64];
-            let a = output::put(out, 0, b"order");
-            let b = show::among(out, a, &front, &symbol, &[order.price]);
-            rest_of(out, b, firm, order.unsolicited)
-        }
-    }
+    put(b"order");
+    number(order.id);
+    byte(order.side);
+    small(order.shares);
+    bytes(&symbol);
+    number(order.price);
+    bytes(&firm);
+    byte(order.unsolicited);
+    end();
 }
 
-fn rest_of(out: &mut [u8], at: usize, firm: [u8; 4], unsolicited: u8) -> usize
-    ensures { λ r. ⌜ r ≤ length (now (out .exit)) ⌝ }
-{
-    let a = show::bytes(out, at, &firm);
-    let b = show::byte(out, a, unsolicited);
-    show::end(out, b)
-}
-
-pub fn best(session: Session, line: &[u8], out: &mut [u8]) -> usize
+pub fn best(session: Session, line: &[u8])
     requires { ⌜ Ruled session ⌝ }
-    ensures { λ r. ⌜ r ≤ length (now (out .exit)) ⌝ }
 {
-    let symbol = text_of(words::word(line, 1));
+    let symbol = text_of(word(line, 1));
     if !symbol.good {
-        return show::bad(out);
+        return bad();
     }
-    let side = number::parse(words::word(line, 2), 255);
+    let side = parse(word(line, 2), 255);
     if !side.good {
-        return show::bad(out);
+        return bad();
     }
     let text = symbol.text;
-    best_of(asking::best(session, text, side.value as u8), out)
+    best_of(asking::best(session, text, side.value as u8));
 }
 
-fn best_of(answer: BestReply, out: &mut [u8]) -> usize
-    ensures { λ r. ⌜ r ≤ length (now (out .exit)) ⌝ }
-{
+fn best_of(answer: BestReply) {
     let reply = answer.reply;
-    let level = answer.level;
     match reply {
-        Reply::Refused(number) => show::refused(out, number),
+        Reply::Refused(number) => refused(number),
         Reply::Known => {
-            let a = output::put(out, 0, b"best");
-            let b = show::numbers(out, a, &[level.price, level.shares, level.orders]);
-            show::end(out, b)
+            let level = answer.level;
+            put(b"best");
+            number(level.price);
+            number(level.shares);
+            number(level.orders);
+            end();
         }
     }
 }
 
-pub fn inside(session: Session, line: &[u8], out: &mut [u8]) -> usize
+pub fn inside(session: Session, line: &[u8])
     requires { ⌜ Ruled session ⌝ }
-    ensures { λ r. ⌜ r ≤ length (now (out .exit)) ⌝ }
 {
-    let symbol = text_of(words::word(line, 1));
+    let symbol = text_of(word(line, 1));
     if !symbol.good {
-        return show::bad(out);
+        return bad();
     }
     let text = symbol.text;
-    inside_of(asking::inside(session, text), out)
+    inside_of(asking::inside(session, text));
 }
 
-fn inside_of(answer: InsideReply, out: &mut [u8]) -> usize
-    ensures { λ r. ⌜ r ≤ length (now (out .exit)) ⌝ }
-{
+fn inside_of(answer: InsideReply) {
     let reply = answer.reply;
-    let inside = answer.inside;
     match reply {
-        Reply::Refused(number) => show::refused(out, number),
-        Reply::Known => {
-            let values = [
-                inside.time as u64,
-                inside.ask,
-                inside.askvolume as u64,
-                inside.bid,
-                inside.bidvolume as u64,
-                inside.unsolicited as u64,
-            ];
-            let a = output::put(out, 0, b"inside");
-            let b = show::numbers(out, a, &values);
-            show::end(out, b)
-        }
+        Reply::Refused(number) => refused(number),
+        Reply::Known => known_inside(answer.inside),
     }
 }
 
-pub fn requests(session: Session, line: &[u8], out: &mut [u8]) -> usize
+fn known_inside(inside: Inside) {
+    put(b"inside");
+    small(inside.time);
+    number(inside.ask);
+    small(inside.askvolume);
+    number(inside.bid);
+    small(inside.bidvolume);
+    byte(inside.unsolicited);
+    end();
+}
+
+pub fn requests(session: Session, line: &[u8])
     requires { ⌜ Ruled session ⌝ }
-    ensures { λ r. ⌜ r ≤ length (now (out .exit)) ⌝ }
 {
-    let size = number::parse(words::word(line, 1), 2048);
-    if !size.good {
-        return show::bad(out);
+    let room = parse(word(line, 1), 2048);
+    if !room.good {
+        return bad();
     }
-    requests_in(session, size.value as usize, out)
+    requests_in(session, room.value as usize);
 }
 
-fn requests_in(session: Session, room: usize, out: &mut [u8]) -> usize
+fn requests_in(session: Session, room: usize)
     requires { ⌜ Ruled session × (room ≤ 2048) ⌝ }
-    ensures { λ r. ⌜ r ≤ length (now (out .exit)) ⌝ }
 {
     let mut buffer = [0xEEu8; 2048];
-    asked(session, &mut buffer[0..room], out)
+    requested(session, &mut buffer[0..room]);
 }
 
-fn asked(session: Session, buffer: &mut [u8], out: &mut [u8]) -> usize
+// The answer, then the buffer whole.
+fn requested(session: Session, buffer: &mut [u8])
     requires { ⌜ Ruled session ⌝ }
-    ensures { λ r. ⌜ r ≤ length (now (out .exit)) ⌝ }
 {
-    let said = asking::requests(session, buffer);
-    let at = opening(said, out);
-    let end = show::bytes(out, at, buffer);
-    show::end(out, end)
+    asked(asking::requests(session, buffer));
+    bytes(buffer);
+    end();
 }
 
-fn opening(said: Asked, out: &mut [u8]) -> usize
-    ensures { λ r. ⌜ r ≤ length (now (out .exit)) ⌝ }
-{
+fn asked(said: Asked) {
     match said {
-        Asked::Refused(number) => show::refusal(out, number),
+        Asked::Refused(number) => refusal(number),
         Asked::Count(count) => {
-            let at = output::put(out, 0, b"requests");
-            show::number(out, at, count as u64)
+            put(b"requests");
+            number(count as u64);
         }
     }
 }

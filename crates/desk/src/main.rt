@@ -4,74 +4,53 @@ mod command;
 mod lines;
 mod moves;
 mod reads;
-mod show;
 mod walks;
 mod writes;
 
 use command::Command;
 use lines::Kind;
-use moves::Moved;
 use session::state::Session;
-use text::output;
-ghost use Prim.Native.Nat.{_≤_};
-ghost use lib.ListN.{length};
 ghost use Rattle.session.specs.Meaning.{Ruled};
-ghost use Rattle.desk.specs.Moves.{Moves};
 
-// The commands that change nothing.
-fn answer(session: Session, command: Command, line: &[u8], out: &mut [u8]) -> usize
+// The commands that ask a session.
+fn ask(session: Session, command: Command, line: &[u8])
     requires { ⌜ Ruled session ⌝ }
-    ensures { λ r. ⌜ r ≤ length (now (out .exit)) ⌝ }
 {
     match command {
-        Command::State => asks::state(session, out),
-        Command::Order => asks::order(session, line, out),
-        Command::Best => asks::best(session, line, out),
-        Command::Inside => asks::inside(session, line, out),
-        Command::Requests => asks::requests(session, line, out),
-        _ => plain(command, line, out),
+        Command::State => asks::state(session),
+        Command::Order => asks::order(session, line),
+        Command::Best => asks::best(session, line),
+        Command::Inside => asks::inside(session, line),
+        Command::Requests => asks::requests(session, line),
+        _ => plain(command, line),
     }
 }
 
 // Those that need no session.
-fn plain(command: Command, line: &[u8], out: &mut [u8]) -> usize
-    ensures { λ r. ⌜ r ≤ length (now (out .exit)) ⌝ }
-{
+fn plain(command: Command, line: &[u8]) {
     match command {
-        Command::Value => reads::value(line, out),
-        Command::Header => reads::header(line, out),
-        Command::Message => reads::message(line, out),
-        Command::Rewrite => writes::rewrite(line, out),
-        Command::Rehead => writes::rehead(line, out),
-        Command::Walk => walks::walk(line, out),
-        _ => show::bad(out),
+        Command::Value => reads::value(line),
+        Command::Header => reads::header(line),
+        Command::Message => reads::message(line),
+        Command::Rewrite => writes::rewrite(line),
+        Command::Rehead => writes::rehead(line),
+        Command::Walk => walks::walk(line),
+        _ => reads::bad(),
     }
 }
 
-fn carry_out(session: Session, line: &[u8], out: &mut [u8]) -> Moved
+// The session behind a line that was carried out.
+fn carry_out(session: Session, line: &[u8]) -> Session
     requires { ⌜ Ruled session ⌝ }
-    ensures { λ r. ⌜ Moves r (length (now (out .exit))) ⌝ }
+    ensures { λ r. ⌜ Ruled r ⌝ }
 {
     let command = command::of(line);
     match command {
-        Command::Open => moves::open(session, line, out),
-        Command::Take => moves::take(session, line, out),
+        Command::Open => moves::open(session, line),
+        Command::Take => moves::take(session, line),
         _ => {
-            let end = answer(session, command, line, out);
-            Moved { session, end }
-        }
-    }
-}
-
-fn judged(session: Session, kind: Kind, line: &[u8], out: &mut [u8]) -> Moved
-    requires { ⌜ Ruled session ⌝ }
-    ensures { λ r. ⌜ Moves r (length (now (out .exit))) ⌝ }
-{
-    match kind {
-        Kind::Whole => carry_out(session, line, out),
-        _ => {
-            let end = show::bad(out);
-            Moved { session, end }
+            ask(session, command, line);
+            session
         }
     }
 }
@@ -81,10 +60,13 @@ fn respond(session: Session, kind: Kind, line: &[u8]) -> Session
     requires { ⌜ Ruled session ⌝ }
     ensures { λ r. ⌜ Ruled r ⌝ }
 {
-    let mut out = [0u8; 8192];
-    let moved = judged(session, kind, line, &mut out);
-    output::write(&out, moved.end);
-    moved.session
+    match kind {
+        Kind::Whole => carry_out(session, line),
+        _ => {
+            reads::bad();
+            session
+        }
+    }
 }
 
 // What the buffer holds lies between from and to. No contract of a read promises the input's end, so

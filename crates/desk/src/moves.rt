@@ -1,71 +1,55 @@
 // The commands that change the session: open, take.
 use crate::reads;
-use crate::show;
+use crate::reads::bad;
+use printing::answers::refused;
+use printing::words::end;
+use printing::words::number;
+use printing::words::put;
 use session::packets;
 use session::packets::Answer;
 use session::state::Session;
 use text::hex;
-use text::number;
-use text::output;
-use text::words;
-ghost use Prim.Native.Nat.{_≤_};
-ghost use lib.ListN.{length};
+use text::number::parse;
+use text::words::word;
 ghost use Rattle.session.specs.Meaning.{Ruled};
-ghost use Rattle.desk.specs.Moves.{Moves};
 
-// The session behind a line, and where the line's answer ends.
-pub struct Moved {
-    pub session: Session,
-    pub end: usize,
-}
-
-pub fn open(session: Session, line: &[u8], out: &mut [u8]) -> Moved
+pub fn open(session: Session, line: &[u8]) -> Session
     requires { ⌜ Ruled session ⌝ }
-    ensures { λ r. ⌜ Moves r (length (now (out .exit))) ⌝ }
+    ensures { λ r. ⌜ Ruled r ⌝ }
 {
-    let number = number::parse(words::word(line, 1), 4294967295);
-    if !number.good {
-        let end = show::bad(out);
-        return Moved { session, end };
+    let first = parse(word(line, 1), 4294967295);
+    if !first.good {
+        bad();
+        return session;
     }
-    let opened = Session::open(number.value as u32);
-    let end = show::ok(out);
-    Moved {
-        session: opened,
-        end,
-    }
+    put(b"ok\n");
+    Session::open(first.value as u32)
 }
 
-pub fn take(session: Session, line: &[u8], out: &mut [u8]) -> Moved
+pub fn take(session: Session, line: &[u8]) -> Session
     requires { ⌜ Ruled session ⌝ }
-    ensures { λ r. ⌜ Moves r (length (now (out .exit))) ⌝ }
+    ensures { λ r. ⌜ Ruled r ⌝ }
 {
     let mut lent = [0u8; reads::LENT];
-    let got = hex::parse(words::word(line, 1), &mut lent);
+    let got = hex::parse(word(line, 1), &mut lent);
     if !got.good {
-        let end = show::bad(out);
-        return Moved { session, end };
+        bad();
+        return session;
     }
     let count = got.count;
     let taken = packets::take(session, &lent[0..count]);
     let answer = taken.answer;
-    let end = taken_with(answer, out);
-    let after = taken.session;
-    Moved {
-        session: after,
-        end,
-    }
+    taken_with(answer);
+    taken.session
 }
 
-fn taken_with(answer: Answer, out: &mut [u8]) -> usize
-    ensures { λ r. ⌜ r ≤ length (now (out .exit)) ⌝ }
-{
+fn taken_with(answer: Answer) {
     match answer {
-        Answer::Refused(number) => show::refused(out, number),
+        Answer::Refused(number) => refused(number),
         Answer::Applied(count) => {
-            let a = output::put(out, 0, b"ok");
-            let b = show::number(out, a, count);
-            show::end(out, b)
+            put(b"ok");
+            number(count);
+            end();
         }
     }
 }

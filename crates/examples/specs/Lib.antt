@@ -1,3 +1,2 @@
--- What `examples` promises of the messages it makes, and of the lines of its tables.
-pub mod Lines
+-- The messages that `examples` makes for the cases.
 pub mod Made

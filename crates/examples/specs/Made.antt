@@ -3,10 +3,12 @@
 use mathlib.Core.List.{List, [], _∷_}
 use Prim.Native.Nat.{ℕ, _+_, _/_, _%_}
 use lib.ListN.{replicate}
+use Rattle.wire.specs.Choice.{listedAt}
 use Rattle.message.specs.declared.kinds.Message.{Message}
 use Rattle.message.specs.declared.kinds.Body.{Body}
 use Rattle.message.specs.declared.kinds.Body.the-variants.{TradingSession, Add, Update, Delete, Execution, Top, Other}
 use Rattle.message.specs.declared.kinds.Terms.the-variants.{Published}
+use Rattle.examples_cases.specs.Lines.{letterOf, valueOf}
 
 -- the id of the k-th order: its three decimal digits in front of two zeros
 abbrev pub idOf : ℕ → List ℕ
@@ -48,3 +50,21 @@ noMessage = namedOf 0 (Other 0)
 abbrev pub topOf : ℕ → ℕ → ℕ → Message
 topOf k ask bid =
     record { id = replicate 14 0; symbol = symbolOf k; firm = replicate 4 0; body = Top 1 ask 400 bid 500 78 }
+
+-- by the first letter of a kind: add, update, delete, executed, top, session; any other is not written
+unfoldable pub messageBy : ℕ → ℕ → ℕ → ℕ → ℕ → Message
+messageBy kind k side first second =
+    listedAt kind
+    ((97, addOf k side (first % 4294967296) second)
+    ∷ (117, updateOf k (first % 4294967296) second)
+    ∷ (100, deleteOf k)
+    ∷ (101, executionOf k (first % 4294967296) (second % 4294967296))
+    ∷ (116, topOf k first second)
+    ∷ (115, tradingOf (k % 256))
+    ∷ [])
+    noMessage
+
+-- the message that five words of a line name: its kind, its order, a side, and two numbers
+unfoldable pub toldOf : List ℕ → ℕ → Message
+toldOf line at =
+    messageBy (letterOf line at) (valueOf line (at + 1) % 1000) (letterOf line (at + 2)) (valueOf line (at + 3)) (valueOf line (at + 4))

@@ -1,11 +1,17 @@
 // Printing what a session answers.
 use crate::made;
-use crate::show;
 use book::asking::BestReply;
 use book::asking::InsideReply;
 use book::asking::OrderReply;
 use book::asking::Reply;
 use book::tables::Faults;
+use printing::answers::refusal;
+use printing::words::byte;
+use printing::words::colon;
+use printing::words::end;
+use printing::words::number;
+use printing::words::put;
+use printing::words::small;
 use session::asking;
 use session::packets::Answer;
 use session::packets::Taken;
@@ -14,43 +20,38 @@ ghost use Rattle.session.specs.Meaning.{Ruled};
 
 // The answer to a packet, then next and end.
 pub fn taken(label: &[u8], taken: Taken) {
-    show::put(label);
-    show::colon();
+    put(label);
+    colon();
     let said = taken.answer;
     answer(said);
     numbers(taken.session);
-    show::end();
+    end();
 }
 
 fn answer(answer: Answer) {
     match answer {
         Answer::Applied(count) => {
-            show::put(b"applied");
-            show::number(count);
+            put(b"applied");
+            number(count);
         }
-        Answer::Refused(number) => {
-            show::put(b"refused");
-            show::byte(number);
-        }
+        Answer::Refused(number) => refusal(number),
     }
 }
 
 pub fn numbers(session: Session) {
-    show::put(b", next");
-    show::number(asking::next(session));
-    show::put(b", end");
-    show::number(asking::end(session));
+    put(b", next");
+    number(asking::next(session));
+    put(b", end");
+    number(asking::end(session));
 }
 
 // What the tables say: faults, the first order, the best bid and ask, the first inside.
-pub fn report(label: &[u8], session: Session)
+pub fn report(session: Session)
     requires { ⌜ Ruled session ⌝ }
 {
-    show::put(label);
-    show::colon();
+    colon();
     orders(session);
     inside(asking::inside(session, made::symbol_of(0)));
-    show::end();
 }
 
 fn orders(session: Session)
@@ -63,61 +64,60 @@ fn orders(session: Session)
 }
 
 fn faults(faults: Faults) {
-    show::put(b"faults");
-    show::number(faults.count);
+    put(b"faults");
+    number(faults.count);
     if faults.count != 0 {
-        show::put(b", first");
-        show::number(faults.number);
-        show::put(b" by");
-        show::byte(faults.reason);
+        put(b", first");
+        number(faults.number);
+        put(b" by");
+        byte(faults.reason);
     }
 }
 
-fn refusal(reply: Reply) -> bool {
+// Whether there is an answer; else its refusal is printed.
+fn known(reply: Reply) -> bool {
     match reply {
-        Reply::Known => false,
+        Reply::Known => true,
         Reply::Refused(number) => {
-            show::put(b" refused");
-            show::byte(number);
-            true
+            put(b" ");
+            refusal(number);
+            false
         }
     }
 }
 
 fn order(answer: OrderReply) {
-    show::put(b"; order");
+    put(b"; order");
     let reply = answer.reply;
-    if !refusal(reply) {
+    if known(reply) {
         let order = answer.order;
-        show::small(order.shares);
-        show::number(order.price);
+        small(order.shares);
+        number(order.price);
     }
 }
 
 fn best(answer: BestReply) {
-    show::put(b"; best");
+    put(b"; best");
     let reply = answer.reply;
-    if !refusal(reply) {
+    if known(reply) {
         let level = answer.level;
-        show::number(level.price);
-        show::number(level.shares);
-        show::number(level.orders);
+        number(level.price);
+        number(level.shares);
+        number(level.orders);
     }
 }
 
 fn inside(answer: InsideReply) {
-    show::put(b"; inside");
+    put(b"; inside");
     let reply = answer.reply;
-    if !refusal(reply) {
+    if known(reply) {
         let inside = answer.inside;
-        show::number(inside.ask);
-        show::number(inside.bid);
+        number(inside.ask);
+        number(inside.bid);
     }
 }
 
-pub fn code(label: &[u8], session: Session) {
-    show::put(label);
-    show::put(b": code");
-    show::byte(asking::code(session));
-    show::end();
+pub fn code(session: Session) {
+    put(b": code");
+    byte(asking::code(session));
 }

@@ -1,17 +1,19 @@
 // Messages and packets made for the cases.
+use examples_cases::rows::letter;
+use examples_cases::rows::number;
 use message::Body;
 use message::Message;
 use message::Terms;
+use message_write::Written;
 use packet::Header;
 use session::packets;
 use session::packets::Taken;
 use session::state::Session;
-use writing::Written;
 ghost use mathlib.Core.Path.{_≡_};
 ghost use Prim.Native.Nat.{_≤_};
 ghost use lib.ListN.{length};
 ghost use Rattle.session.specs.Meaning.{Ruled};
-ghost use Rattle.examples.specs.Made.{addOf, deleteOf, executionOf, idOf, namedOf, noMessage, symbolOf, topOf, tradingOf, updateOf};
+ghost use Rattle.examples.specs.Made.{addOf, deleteOf, executionOf, idOf, messageBy, namedOf, noMessage, symbolOf, toldOf, topOf, tradingOf, updateOf};
 
 // The id of the k-th order: its value is below 1,000 in base 36 with decimal digits.
 pub fn id_of(k: u16) -> [u8; 14]
@@ -33,7 +35,7 @@ pub fn symbol_of(k: u16) -> [u8; 14]
     symbol
 }
 
-pub fn add(k: u16, side: u8, quantity: u32, price: u64) -> Message
+fn add(k: u16, side: u8, quantity: u32, price: u64) -> Message
     ensures { λ r. ⌜ r ≡ addOf k side quantity price ⌝ }
 {
     let body = Body::Add {
@@ -55,7 +57,7 @@ pub fn add(k: u16, side: u8, quantity: u32, price: u64) -> Message
     }
 }
 
-pub fn update(k: u16, quantity: u32, price: u64) -> Message
+fn update(k: u16, quantity: u32, price: u64) -> Message
     ensures { λ r. ⌜ r ≡ updateOf k quantity price ⌝ }
 {
     let body = Body::Update {
@@ -67,13 +69,13 @@ pub fn update(k: u16, quantity: u32, price: u64) -> Message
     named(k, body)
 }
 
-pub fn delete(k: u16) -> Message
+fn delete(k: u16) -> Message
     ensures { λ r. ⌜ r ≡ deleteOf k ⌝ }
 {
     named(k, Body::Delete { time: 1 })
 }
 
-pub fn execution(k: u16, executed: u32, remaining: u32) -> Message
+fn execution(k: u16, executed: u32, remaining: u32) -> Message
     ensures { λ r. ⌜ r ≡ executionOf k executed remaining ⌝ }
 {
     let terms = Terms::Published;
@@ -87,7 +89,7 @@ pub fn execution(k: u16, executed: u32, remaining: u32) -> Message
     named(k, body)
 }
 
-pub fn trading(code: u8) -> Message
+fn trading(code: u8) -> Message
     ensures { λ r. ⌜ r ≡ tradingOf code ⌝ }
 {
     let body = Body::TradingSession {
@@ -98,7 +100,7 @@ pub fn trading(code: u8) -> Message
 }
 
 // A message that is not written: nothing more.
-pub fn none() -> Message
+fn none() -> Message
     ensures { λ r. ⌜ r ≡ noMessage ⌝ }
 {
     named(0, Body::Other(0))
@@ -118,7 +120,7 @@ fn named(k: u16, body: Body) -> Message
     }
 }
 
-pub fn top(k: u16, ask: u64, bid: u64) -> Message
+fn top(k: u16, ask: u64, bid: u64) -> Message
     ensures { λ r. ⌜ r ≡ topOf k ask bid ⌝ }
 {
     let body = Body::Top {
@@ -141,11 +143,11 @@ pub fn top(k: u16, ask: u64, bid: u64) -> Message
 }
 
 // A message written behind those that are there; where it ends.
-fn then(buf: &mut [u8], at: usize, m: Message) -> usize
+fn behind(buf: &mut [u8], at: usize, m: Message) -> usize
     requires { ⌜ at ≤ length (now buf) ⌝ }
     ensures { λ r. ⌜ r ≤ length (now (buf .entry)) ⌝ }
 {
-    if let Written::Count(count) = writing::write(m, buf, at) {
+    if let Written::Count(count) = message_write::write(m, buf, at) {
         if count <= buf.len() - at {
             return at + count;
         }
@@ -166,19 +168,23 @@ fn head(buf: &mut [u8], size: usize, seq: u32, flag: u8, messages: u8) {
 
 // A packet of two messages, the first under the number `seq`, or of one where the second is not
 // written; how many bytes it has.
-pub fn packet_of(buf: &mut [u8], seq: u32, first: Message, second: Message) -> usize
+fn packet_of(buf: &mut [u8], seq: u32, first: Message, second: Message) -> usize
     requires { ⌜ 12 ≤ length (now buf) ⌝ }
     ensures { λ r. ⌜ r ≤ length (now (buf .entry)) ⌝ }
 {
-    let one = then(buf, 12, first);
-    let both = then(buf, one, second);
+    let one = behind(buf, 12, first);
+    let both = behind(buf, one, second);
     let messages = if one < both { 2 } else { 1 };
     head(buf, both, seq, 0, messages);
     both
 }
 
-pub fn heartbeat(buf: &mut [u8], seq: u32) {
-    head(buf, 12, seq, 1, 0);
+// A packet handed to a session.
+fn handed(session: Session, packet: &[u8]) -> Taken
+    requires { ⌜ Ruled session ⌝ }
+    ensures { λ r. ⌜ Ruled (r .session) ⌝ }
+{
+    packets::take(session, packet)
 }
 
 // Such a packet handed to a session.
@@ -188,5 +194,89 @@ pub fn sent(session: Session, seq: u32, first: Message, second: Message) -> Take
 {
     let mut buf = [0u8; 256];
     let size = packet_of(&mut buf, seq, first, second);
-    packets::take(session, &buf[0..size])
+    handed(session, &buf[0..size])
+}
+
+// A packet of one message with a byte changed: what no writer would write.
+pub fn damaged(session: Session, seq: u32, m: Message, at: usize, byte: u8) -> Taken
+    requires { ⌜ Ruled session ⌝ }
+    ensures { λ r. ⌜ Ruled (r .session) ⌝ }
+{
+    let mut buf = [0u8; 256];
+    let size = packet_of(&mut buf, seq, m, none());
+    set(&mut buf, at, byte);
+    handed(session, &buf[0..size])
+}
+
+fn set(buf: &mut [u8], at: usize, byte: u8) {
+    if at < buf.len() {
+        buf[at] = byte;
+    }
+}
+
+pub fn beat(session: Session, seq: u32) -> Taken
+    requires { ⌜ Ruled session ⌝ }
+    ensures { λ r. ⌜ Ruled (r .session) ⌝ }
+{
+    let mut buf = [0u8; 12];
+    head(&mut buf, 12, seq, 1, 0);
+    handed(session, &buf)
+}
+
+// A session with so many orders, or so many insides.
+pub fn filled(kind: u8, count: u16) -> Session
+    ensures { λ r. ⌜ Ruled r ⌝ }
+{
+    let mut session = Session::open(1);
+    let mut k: u16 = 0;
+    while k < count {
+        session = then(session, k as u32 + 1, nth(kind, k));
+        k += 1;
+    }
+    session
+}
+
+fn then(session: Session, seq: u32, m: Message) -> Session
+    requires { ⌜ Ruled session ⌝ }
+    ensures { λ r. ⌜ Ruled r ⌝ }
+{
+    let taken = sent(session, seq, m, none());
+    taken.session
+}
+
+fn nth(kind: u8, k: u16) -> Message {
+    if kind == b'a' {
+        add(k, b'B', 300, 1250000)
+    } else {
+        top(k, 1260000, 1250000)
+    }
+}
+
+// The message that five words of a line name, from one of them on: its kind, its order, a side, and
+// two numbers. Where there are none, or of no such kind, it is not written.
+pub fn told(line: &[u8], at: u8) -> Message
+    requires { ⌜ at ≤ 200 ⌝ }
+    ensures { λ r. ⌜ r ≡ toldOf (now (line .entry)) at ⌝ }
+{
+    let k = (number(line, at + 1) % 1000) as u16;
+    let side = letter(line, at + 2);
+    let first = number(line, at + 3);
+    let second = number(line, at + 4);
+    named_by(letter(line, at), k, side, first, second)
+}
+
+// By the first letter of a kind: add, update, delete, executed, top, session.
+fn named_by(kind: u8, k: u16, side: u8, first: u64, second: u64) -> Message
+    ensures { λ r. ⌜ r ≡ messageBy kind k side first second ⌝ }
+{
+    let shares = (first % 4294967296) as u32;
+    match kind {
+        b'a' => add(k, side, shares, second),
+        b'u' => update(k, shares, second),
+        b'd' => delete(k),
+        b'e' => execution(k, shares, (second % 4294967296) as u32),
+        b't' => top(k, first, second),
+        b's' => trading((k % 256) as u8),
+        _ => none(),
+    }
 }

@@ -1,27 +1,17 @@
 // The published example, document 01's worked examples, and a table of cases, one line each:
 // what is lent, and what the library answers.
 mod answers;
-mod books;
-mod headers;
-mod ids;
+mod bursts;
 mod made;
-mod messages;
-mod rows;
-mod samples;
 mod sessions;
-mod show;
-mod sweeps;
-mod walks;
-mod writes;
 
 fn main() {
-    ids::run();
-    headers::run();
-    messages::run();
-    sweeps::run();
-    messages::written();
-    writes::headers();
-    books::run();
+    examples_cases::ids::run();
+    examples_cases::headers::run();
+    examples_cases::messages::run();
+    examples_cases::sweeps::run();
+    examples_cases::writes::run();
     sessions::run();
-    walks::run();
+    bursts::run();
+    examples_cases::walks::run();
 }

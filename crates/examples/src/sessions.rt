@@ -1,284 +1,323 @@
-// Packets handed to a session: which are refused, what waits, what is asked for again, and a burst.
+// Packets handed to a session: what they do to its tables, which are refused, what waits, and what is
+// asked for again. A line goes on with the session that the line before it left, and one with no label
+// prints nothing.
 use crate::answers;
 use crate::made;
-use crate::made::none;
-use crate::made::packet_of;
-use crate::made::sent;
-use crate::rows;
-use crate::show;
-use message::Message;
+use crate::made::told;
+use examples_cases::rows;
+use examples_cases::rows::number;
+use printing::answers::refusal;
+use printing::words::bytes;
+use printing::words::colon;
+use printing::words::end;
+use printing::words::put;
 use session::asking;
-use session::packets;
-use session::packets::Count;
+use session::packets::Taken;
 use session::state::Session;
-use waiting::asking::Asked;
+use window::asking::Asked;
 ghost use Rattle.session.specs.Meaning.{Ruled};
 
 pub fn run() {
-    ahead();
-    last_numbers();
-    heartbeats();
-    half_old();
+    executions();
+    orders();
+    broken();
+    bests();
+    full();
+    numbers();
     copies();
-    in_order();
-    codes();
-    requests();
-    gaps();
-    bursts();
+    missing();
 }
 
-fn bid(k: u16) -> Message {
-    made::add(k, b'B', 300, 1250000)
-}
-
-fn ahead() {
-    let session = Session::open(1000);
-    let waits = sent(session, 1255, bid(0), none());
-    answers::taken(b"P7 opened at 1,000, number 1,255", waits);
-    gap(b"P7 gap from 1,000", waits.session, 1000);
-    answers::taken(
-        b"P8 opened at 1,000, number 1,256",
-        sent(session, 1256, bid(0), none()),
+fn executions() {
+    lines(
+        b"| open 1\n\
+        | take 1 add 0 B 300 1250000 executed 0 - 500 0\n\
+        P9 order of 300, executed 500 | report\n\
+        | open 1\n\
+        | take 1 add 0 B 300 1250000 executed 0 - 300 0\n\
+        P10 order of 300, executed 300, remaining 0 | report\n\
+        | open 1\n\
+        | take 1 add 0 B 300 1250000 executed 0 - 100 199\n\
+        P11 order of 300, executed 100, remaining 199 | report\n\
+        | open 1\n\
+        | take 1 add 0 B 300 1250000 executed 0 - 100 200\n\
+        order of 300, executed 100, remaining 200 | report\n\
+        | open 1\n\
+        | take 1 add 0 B 300 1250000 executed 0 - 500 500\n\
+        6 before 7: executed 500, remaining 500 | report\n\
+        | open 1\n\
+        | take 1 executed 0 - 500 500\n\
+        5 before 6: executed of no live order | report\n\
+        | open 1\n\
+        | take 1 add 0 B 300 1250000 executed 0 - 500 0\n\
+        | take 3 executed 0 - 100 199 add 0 B 300 1250000\n\
+        the first fault stays | report\n",
     );
 }
 
-fn last_numbers() {
-    let session = Session::open(4294967295);
-    answers::taken(
-        b"SeqNum 4,294,967,295, two messages",
-        sent(session, 4294967295, bid(0), bid(1)),
-    );
-    let full = sent(session, 4294967295, bid(0), none());
-    answers::taken(b"SeqNum 4,294,967,295, one message", full);
-    answers::taken(
-        b"the same packet behind the last number",
-        sent(full.session, 4294967295, bid(0), none()),
+fn orders() {
+    lines(
+        b"| open 1\n\
+        | take 1 add 0 B 300 1250000 add 0 S 100 1\n\
+        Add of a live order | report\n\
+        | open 1\n\
+        | take 1 add 0 B 300 1250000 update 0 - 200 1240000\n\
+        Update replaces shares and price | report\n\
+        | open 1\n\
+        | take 1 add 0 B 300 1250000 delete 0\n\
+        Delete removes | report\n\
+        | take 3 add 0 S 100 1260000\n\
+        an id again after it left | report\n\
+        | open 1\n\
+        | take 1 delete 0\n\
+        Delete of no live order | report\n\
+        | open 1\n\
+        | take 1 add 0 B 300 1250000 add 1 B 50 1250000\n\
+        | take 3 delete 1\n\
+        Delete of another order | report\n\
+        | open 1\n\
+        | take 1 add 1 B 50 1 add 0 B 300 1250000\n\
+        | take 3 delete 1\n\
+        the last order takes a freed place | report\n",
     );
 }
 
-fn heartbeats() {
-    let mut beat = [0u8; 12];
-    made::heartbeat(&mut beat, 12);
-    let known = packets::take(Session::open(10), &beat);
-    answers::taken(b"opened at 10, heartbeat 12 (end moves)", known);
-    let first = sent(known.session, 10, bid(0), none());
-    answers::taken(b"then number 10 (the heartbeat used up none)", first);
-    made::heartbeat(&mut beat, 11);
-    answers::taken(
-        b"then heartbeat 11 (end stays)",
-        packets::take(first.session, &beat),
+// A message with one byte of its packet changed: what no writer would write.
+fn broken() {
+    lines(
+        b"| open 1\n\
+        | take 1 add 0 B 300 1250000\n\
+        | damage 2 14 74 delete 0\n\
+        1: a type that is not listed | report\n\
+        | open 1\n\
+        | take 1 add 0 B 300 1250000\n\
+        | damage 2 33 88 add 0 B 300 1250000\n\
+        2 before 3: Add of a live order, side X | report\n\
+        | open 1\n\
+        | damage 1 19 97 delete 0\n\
+        2 before 5: Delete with a bad id | report\n\
+        | open 1\n\
+        | take 1 add 0 B 300 1250000\n\
+        | damage 2 32 97 delete 0\n\
+        Delete with other last characters | report\n",
     );
 }
 
-// The order that is told again would be a fault if it were applied again.
-fn half_old() {
-    let first = sent(Session::open(10), 10, bid(0), none());
-    answers::taken(b"opened at 10, number 10", first);
-    let second = sent(first.session, 10, bid(0), bid(1));
-    answers::taken(b"then numbers 10 and 11 (half of it old)", second);
-    answers::report(b"and its tables", second.session);
+fn bests() {
+    lines(
+        b"| open 1\n\
+        | take 1 add 0 B 300 1250000 add 1 B 200 1250000\n\
+        | take 3 add 2 B 900 1240000\n\
+        bids 300 and 200 at 1,250,000, 900 at 1,240,000 | report\n\
+        | open 1\n\
+        | take 1 add 0 S 10 1260000 add 1 S 20 1255000\n\
+        asks at 1,260,000 and 1,255,000 | report\n\
+        | open 1\n\
+        | take 1 top 0 - 1260000 1250000 top 0 - 1270000 0\n\
+        an inside, then another for its symbol | report\n\
+        | open 1\n\
+        nothing applied | report\n",
+    );
 }
 
-// The copies differ in the last byte of the quantity.
+fn full() {
+    lines(
+        b"| fill 256 add\n\
+        256 live orders | report\n\
+        | take 257 add 256 B 1 1\n\
+        the 257th order | report\n\
+        | fill 256 add\n\
+        | take 257 add 0 B 1 1\n\
+        3 before 4: the first order again with 256 live | report\n\
+        | fill 256 add\n\
+        | take 257 delete 255\n\
+        with 256 live, one leaves | report\n\
+        | fill 64 top\n\
+        64 insides | report\n\
+        | take 65 top 64 - 1 1\n\
+        the 65th inside | report\n\
+        | fill 64 top\n\
+        | take 65 top 0 - 1280000 1240000\n\
+        with 64 insides, the first again | report\n",
+    );
+}
+
+fn numbers() {
+    lines(
+        b"| open 1000\n\
+        P7 opened at 1,000, number 1,255 | take 1255 add 0 B 300 1250000\n\
+        P7 gap from 1,000 | gap 1000\n\
+        | open 1000\n\
+        P8 opened at 1,000, number 1,256 | take 1256 add 0 B 300 1250000\n\
+        | open 4294967295\n\
+        SeqNum 4,294,967,295, two messages | take 4294967295 add 0 B 300 1250000 add 1 B 300 1250000\n\
+        | open 4294967295\n\
+        SeqNum 4,294,967,295, one message | take 4294967295 add 0 B 300 1250000\n\
+        the same packet behind the last number | take 4294967295 add 0 B 300 1250000\n\
+        | open 10\n\
+        opened at 10, heartbeat 12 (end moves) | beat 12\n\
+        then number 10 (the heartbeat used up none) | take 10 add 0 B 300 1250000\n\
+        then heartbeat 11 (end stays) | beat 11\n",
+    );
+}
+
+// The order that is told again would be a fault if it were applied again. The copies of 12 differ in
+// the last byte of the quantity. The execution is a fault before its order.
 fn copies() {
-    let other = made::add(0, b'B', 301, 1250000);
-    let waits = sent(Session::open(10), 12, bid(0), none());
-    answers::taken(b"opened at 10, number 12 (waits)", waits);
-    let refused = sent(waits.session, 12, other, none());
-    answers::taken(b"then 12 with one byte changed", refused);
-    answers::taken(
-        b"then 12 with one byte changed, and 13 (end stays)",
-        sent(refused.session, 12, other, bid(1)),
-    );
-    answers::taken(
-        b"then 12 as it was",
-        sent(refused.session, 12, bid(0), none()),
-    );
-}
-
-// The execution is a fault before its order.
-fn in_order() {
-    let waits = sent(Session::open(10), 11, made::execution(0, 100, 200), none());
-    answers::taken(b"opened at 10, number 11 (waits)", waits);
-    let both = sent(waits.session, 10, bid(0), none());
-    answers::taken(b"then number 10 (11 follows it)", both);
-    answers::report(b"and its tables", both.session);
-}
-
-fn codes() {
-    let session = Session::open(10);
-    answers::code(b"opened", session);
-    let told = sent(session, 10, made::trading(5), none());
-    answers::code(b"then Trading Session 5", told.session);
-}
-
-fn requests() {
-    let waits = sent(Session::open(10), 12, bid(0), bid(1));
-    answers::taken(b"P12 opened at 10, numbers 12 and 13", waits);
-    questions(
-        waits.session,
-        b"P12 requests | 1 24\n\
-        P12 requests, exact room | 1 12\n\
-        P12 requests, one byte too few | 1 11\n",
+    lines(
+        b"| open 10\n\
+        opened at 10, number 10 | take 10 add 0 B 300 1250000\n\
+        then numbers 10 and 11 (half of it old) | take 10 add 0 B 300 1250000 add 1 B 300 1250000\n\
+        and its tables | report\n\
+        | open 10\n\
+        opened at 10, number 12 (waits) | take 12 add 0 B 300 1250000\n\
+        then 12 with one byte changed | take 12 add 0 B 301 1250000\n\
+        then 12 with one byte changed, and 13 (end stays) | take 12 add 0 B 301 1250000 add 1 B 300 1250000\n\
+        then 12 as it was | take 12 add 0 B 300 1250000\n\
+        | open 10\n\
+        opened at 10, number 11 (waits) | take 11 executed 0 - 100 200\n\
+        then number 10 (11 follows it) | take 10 add 0 B 300 1250000\n\
+        and its tables | report\n\
+        | open 10\n\
+        opened | code\n\
+        | take 10 session 5\n\
+        then Trading Session 5 | code\n",
     );
 }
 
-// Each line of a table asked in turn.
-fn questions(session: Session, lines: &[u8])
-    requires { ⌜ Ruled session ⌝ }
-{
+fn missing() {
+    lines(
+        b"| open 10\n\
+        P12 opened at 10, numbers 12 and 13 | take 12 add 0 B 300 1250000 add 1 B 300 1250000\n\
+        P12 requests | write 24\n\
+        P12 requests, exact room | write 12\n\
+        P12 requests, one byte too few | write 11\n\
+        | open 10\n\
+        | take 12 add 0 B 300 1250000\n\
+        opened at 10, numbers 12 and 15 | take 15 add 0 B 300 1250000\n\
+        gap from 0 | gap 0\n\
+        gap from 11 | gap 11\n\
+        gap from 12 | gap 12\n\
+        gap from 15 | gap 15\n\
+        gap from the largest number | gap 18446744073709551615\n\
+        requests of two gaps | write 24\n\
+        requests of two gaps, one byte too few | write 23\n",
+    );
+}
+
+// Each line in turn.
+fn lines(table: &[u8]) {
+    let mut session = Session::open(0);
     let mut from = 0;
-    while from < lines.len() {
-        let stop = rows::find(lines, from, b'\n');
-        question(session, &lines[from..stop]);
+    while from < table.len() {
+        let stop = rows::find(table, from, b'\n');
+        session = step(session, &table[from..stop]);
         from = stop + 1;
     }
 }
 
-// 0 and a number: the gap from there on; 1 and a size: the requests in so many bytes.
-fn question(session: Session, line: &[u8])
+// By the first letter: open, fill, take, damage, beat, or a question.
+fn step(session: Session, line: &[u8]) -> Session
     requires { ⌜ Ruled session ⌝ }
+    ensures { λ r. ⌜ Ruled r ⌝ }
 {
-    if rows::number(line, 0) == 0 {
-        gap(rows::label(line), session, rows::number(line, 1));
-    } else {
-        asked(rows::label(line), session, rows::place(line, 1));
+    let n = (number(line, 1) % 4294967296) as u32;
+    match rows::letter(line, 0) {
+        b'o' => Session::open(n),
+        b'f' => filled(n, line),
+        b't' => took(line, sent(session, n, line)),
+        b'd' => took(line, damaged(session, n, line)),
+        b'b' => took(line, made::beat(session, n)),
+        _ => {
+            question(session, line);
+            session
+        }
     }
 }
 
-// The requests written to the first `room` bytes of a buffer of 0xEE.
-fn asked(label: &[u8], session: Session, room: usize)
+// So many of a kind.
+fn filled(count: u32, line: &[u8]) -> Session
+    ensures { λ r. ⌜ Ruled r ⌝ }
+{
+    made::filled(rows::letter(line, 2), (count % 1000) as u16)
+}
+
+// One message or two.
+fn sent(session: Session, seq: u32, line: &[u8]) -> Taken
+    requires { ⌜ Ruled session ⌝ }
+    ensures { λ r. ⌜ Ruled (r .session) ⌝ }
+{
+    made::sent(session, seq, told(line, 2), told(line, 7))
+}
+
+// A place, a byte, and the message with that byte at that place of its packet.
+fn damaged(session: Session, seq: u32, line: &[u8]) -> Taken
+    requires { ⌜ Ruled session ⌝ }
+    ensures { λ r. ⌜ Ruled (r .session) ⌝ }
+{
+    let at = rows::place(line, 2);
+    let byte = (number(line, 3) % 256) as u8;
+    made::damaged(session, seq, told(line, 4), at, byte)
+}
+
+fn took(line: &[u8], taken: Taken) -> Session
+    requires { ⌜ Ruled (taken .session) ⌝ }
+    ensures { λ r. ⌜ Ruled r ⌝ }
+{
+    let label = rows::label(line);
+    if label.len() != 0 {
+        answers::taken(label, taken);
+    }
+    taken.session
+}
+
+// By the first letter: gap, write the requests, report, code.
+fn question(session: Session, line: &[u8])
     requires { ⌜ Ruled session ⌝ }
 {
-    show::put(label);
-    show::colon();
+    put(rows::label(line));
+    match rows::letter(line, 0) {
+        b'g' => gap(session, number(line, 1)),
+        b'w' => requests(session, rows::place(line, 1)),
+        b'r' => answers::report(session),
+        _ => answers::code(session),
+    }
+    end();
+}
+
+fn gap(session: Session, from: u64)
+    requires { ⌜ Ruled session ⌝ }
+{
+    let gap = asking::gap(session, from);
+    put(b":");
+    printing::words::number(gap.start);
+    printing::words::number(gap.count);
+}
+
+// The requests written to the first `room` bytes of a buffer of 0xEE.
+fn requests(session: Session, room: usize)
+    requires { ⌜ Ruled session ⌝ }
+{
+    colon();
     let mut buf = [0xEEu8; 24];
     requested(session, &mut buf, room);
-    show::hex(&buf);
-    show::end();
+    bytes(&buf);
 }
 
 fn requested(session: Session, buf: &mut [u8], room: usize)
     requires { ⌜ Ruled session ⌝ }
 {
     if room <= buf.len() {
-        request(asking::requests(session, &mut buf[0..room]));
+        asked(asking::requests(session, &mut buf[0..room]));
     }
 }
 
-fn request(asked: Asked) {
-    match asked {
+fn asked(said: Asked) {
+    match said {
         Asked::Count(count) => {
-            show::put(b"wrote");
-            show::number(count as u64);
+            put(b"wrote");
+            printing::words::number(count as u64);
         }
-        Asked::Refused(number) => {
-            show::put(b"refused");
-            show::byte(number);
-        }
-    }
-    show::put(b" ");
-}
-
-fn gaps() {
-    let first = sent(Session::open(10), 12, bid(0), none());
-    let second = sent(first.session, 15, bid(0), none());
-    let session = second.session;
-    answers::taken(b"opened at 10, numbers 12 and 15", second);
-    questions(
-        session,
-        b"gap from 0 | 0 0\n\
-        gap from 11 | 0 11\n\
-        gap from 12 | 0 12\n\
-        gap from 15 | 0 15\n\
-        gap from the largest number | 0 18446744073709551615\n\
-        requests of two gaps | 1 24\n\
-        requests of two gaps, one byte too few | 1 23\n",
-    );
-}
-
-fn gap(label: &[u8], session: Session, from: u64)
-    requires { ⌜ Ruled session ⌝ }
-{
-    let gap = asking::gap(session, from);
-    show::put(label);
-    show::put(b":");
-    show::number(gap.start);
-    show::number(gap.count);
-    show::end();
-}
-
-fn bursts() {
-    burst(b"burst of three, 12 numbers", 12);
-    burst(b"burst of three, 11 numbers", 11);
-}
-
-// The answers to three packets in the first `room` numbers of a list of 7.
-fn burst(label: &[u8], room: usize) {
-    let packets = three();
-    let mut list = [7u64; 12];
-    show::put(label);
-    answered(&packets, &mut list, room);
-    listed(&list);
-    show::end();
-}
-
-fn answered(packets: &[u8], list: &mut [u64], room: usize) {
-    if room <= list.len() {
-        let taken = packets::burst(Session::open(10), packets, &mut list[0..room]);
-        let count = taken.count;
-        counted(count);
-        answers::numbers(taken.session);
-    }
-}
-
-// A packet in order, one too far ahead, and a heartbeat, each behind its length.
-fn three() -> [u8; 152] {
-    let mut packets = [0u8; 152];
-    framed(&mut packets, 0, 10);
-    framed(&mut packets, 69, 300);
-    beat(&mut packets, 138, 12);
-    packets
-}
-
-fn framed(buf: &mut [u8], at: usize, seq: u32) {
-    if 14 <= buf.len() {
-        if at <= buf.len() - 14 {
-            let start = at + 2;
-            let size = packet_of(&mut buf[start..], seq, bid(0), none());
-            wire::put_u16(buf, at, (size % 65536) as u16);
-        }
-    }
-}
-
-fn beat(buf: &mut [u8], at: usize, seq: u32) {
-    if 14 <= buf.len() {
-        if at <= buf.len() - 14 {
-            let start = at + 2;
-            made::heartbeat(&mut buf[start..], seq);
-            wire::put_u16(buf, at, 12);
-        }
-    }
-}
-
-fn counted(count: Count) {
-    match count {
-        Count::Packets(n) => {
-            show::put(b": packets");
-            show::number(n as u64);
-        }
-        Count::Refused(number) => {
-            show::put(b": refused");
-            show::byte(number);
-        }
-    }
-}
-
-fn listed(list: &[u64]) {
-    show::put(b", list");
-    let mut k = 0;
-    while k < list.len() {
-        show::number(list[k]);
-        k += 1;
+        Asked::Refused(number) => refusal(number),
     }
 }

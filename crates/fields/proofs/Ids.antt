@@ -11,11 +11,11 @@ use lib.Arith.{digits-lt}
 use lib.Dec.{ltb, lit<}
 use lib.ListN.{getD, take}
 use lib.Seq.{getD-take}
-use borrow.Author.Tests.{ltb-true, lt-ltb, le-ltb}
+use borrow.Author.Tests.{ltb-true, lt-ltb, le-ltb, ne-eqb}
 use Rattle.fields.specs.declared.id.IdValue.{IdValue}
 use Rattle.fields.specs.declared.id.IdValue.the-variants.{Value, Refused}
 use Rattle.fields.specs.Tests.{firstAll}
-use Rattle.fields.specs.Id.{isNumeral, isCapital, isDigit, digitOf, digitTable, goodId, valueOf, noFour, fourOf, noValue, numberOf, idAnswer, Begun}
+use Rattle.fields.specs.Id.{isNumeral, isCapital, isDigit, digitOf, digitTable, goodId, valueOf, noFour, fourOf, noValue, numberOf, isValue, idAnswer, Begun}
 use Rattle.fields.proofs.Table.{entry}
 use Rattle.fields.proofs.Tests.{in-range, all-before, all-last, all-fail, all-longer, all-take}
 
@@ -114,6 +114,18 @@ answer-none id is none = sym (answer-bad id (read-none 12 id is none))
 pub answer-some : (id : List ℕ) {n : ℕ} → n ≡ numberOf id → n ≢ noValue → Value n ≡ idAnswer id
 unfolding numberOf goodId
 answer-some id is some = ap Value (read-some 12 id is some .1) ∙ sym (answer-good id (read-some 12 id is some .0))
+
+value-cases : (id : List ℕ) (b : Bool) → goodId id ≡ b → isValue (cond b (valueOf 12 id) noValue) ≡ b
+unfolding goodId
+value-cases id true good =
+    let small : valueOf 12 id < 36 ^ 12 = value-below id 12 good in
+    simp (ne-eqb (valueOf 12 id) noValue (λ e. omega arith))
+value-cases id false bad = refl
+
+-- an id keeps its rule exactly where its number is a value
+pub value-good : (id : List ℕ) {number : ℕ} → number ≡ numberOf id → isValue number ≡ goodId id
+unfolding numberOf
+value-good id is = ap isValue is ∙ value-cases id (goodId id) refl
 
 -- whether an answer is a value
 abbrev pub accepted : IdValue → Bool

@@ -1,8 +1,9 @@
 -- An order id: its rule and its value.
 use Prim.Native.Nat.{ℕ, zero, suc, _+_, _-_, _*_, _^_, _≤_, _%_}
 use mathlib.Core.Path.{_≡_}
-use mathlib.Core.Bool.{Bool, true, cond, _||_}
+use mathlib.Core.Bool.{Bool, true, cond, not, _||_}
 use mathlib.Core.List.{List, [], _∷_}
+use lib.Dec.{eqb}
 use lib.ListN.{getD}
 use Rattle.fields.specs.Table.{tabulate}
 use Rattle.fields.specs.Tests.{between, firstAll}
@@ -55,6 +56,10 @@ noValue = 36 ^ 12
 -- the id's value, or noValue where it breaks its rule
 unfoldable pub numberOf : List ℕ → ℕ
 numberOf id = cond (goodId id) (valueOf 12 id) noValue
+
+-- of an id's number, whether the id keeps its rule (the law `value-good`)
+abbrev pub isValue : ℕ → Bool
+isValue number = not (eqb number noValue)
 
 -- what asking for an id's value answers
 unfoldable pub idAnswer : List ℕ → IdValue

@@ -2,13 +2,20 @@
 use crate::id::IdValue;
 ghost use mathlib.Core.Path.{_≡_};
 ghost use Prim.Native.Nat.{_≤_};
-ghost use Rattle.fields.specs.Id.{digitOf, digitTable, fourOf, numberOf, idAnswer, Begun};
+ghost use Rattle.fields.specs.Id.{digitOf, digitTable, fourOf, numberOf, isValue, idAnswer, Begun};
 
 // One above the largest value of four characters: no four have it.
 const BAD: u64 = 1_679_616;
 
 // One above the largest value of twelve characters: no id has it.
-const NONE: u64 = 4_738_381_338_321_616_896;
+pub const NONE: u64 = 4_738_381_338_321_616_896;
+
+// Of an id's number, its value or NONE, whether the id keeps its rule.
+pub fn is_value(number: u64) -> bool
+    ensures { λ r. ⌜ r ≡ isValue number ⌝ }
+{
+    number != NONE
+}
 
 pub fn value_with(digits: &[u8; 256], id: [u8; 14]) -> IdValue
     requires { ⌜ now digits ≡ digitTable ⌝ }

@@ -1,6 +1,6 @@
 -- The clauses of keeping and applying: what waits under each number afterwards, and how a packet may be kept message by message.
 -- Assumes nothing.
-use Prim.Native.Nat.{ℕ, suc, _+_, _≤_, _<_, max}
+use Prim.Native.Nat.{ℕ, _+_, _≤_, _<_, max}
 use native.Mathlib.Decide.{decLt, ℕ-discrete}
 use native.Mathlib.Omega.{arith}
 use mathlib.Core.Path.{_≡_, refl, sym, ap, _∙_, fun-ext}
@@ -8,22 +8,21 @@ use mathlib.Core.List.{List, _∷_}
 use mathlib.Core.Logic.{by-cases}
 use mathlib.Core.Option.{Option, none, some}
 use borrow.Author.Tests.{lt-ltb, le-ltb, eq-eqb, ne-eqb}
-use Rattle.merge.specs.Session.{Feed, Packet, Session, copyOf, firstOf, packet, single, heartbeat}
-use Rattle.merge.specs.Session.{keptAt, keep, freedAt, step, direct, applyUpTo}
-use Rattle.merge.specs.History.{Carries}
+use Rattle.merge.specs.State.{Packet, State, copyOf, firstThere, packet, single, heartbeat}
+use Rattle.merge.specs.State.{keptAt, keep, freedAt}
 use Rattle.merge.specs.Promise.{Agrees}
-use Rattle.merge.proofs.Copies.{chosen, told-yes, copy-told, copy-head, copy-none, copy-other, copy-cons, copy-rest, first-none, first-assoc}
+use Rattle.merge.proofs.Copies.{chosen, copy-none, copy-cons, first-none, first-assoc}
 
 -- Two functions of a number agree if they do at one number and at all others.
 pub agree : {A : Type 0} (f g : ℕ → A) (k : ℕ) → f k ≡ g k → ((j : ℕ) → ¬ (j ≡ k) → f j ≡ g j) → (j : ℕ) → f j ≡ g j
 agree f g k e others j = by-cases (ℕ-discrete j k) (λ q. ap f q ∙ e ∙ sym (ap g q)) (others j)
 
 -- Sessions with equal parts are equal.
-pub same-session : {Msg Table : Type 0} {x y : Session Msg Table} → x .next ≡ y .next → x .end ≡ y .end
+pub same-session : {Msg Table : Type 0} {x y : State Msg Table} → x .next ≡ y .next → x .end ≡ y .end
     → ((k : ℕ) → x .waiting k ≡ y .waiting k) → x .tables ≡ y .tables → x ≡ y
 same-session nexts ends waits tables = λ i. record { next = nexts i; end = ends i; waiting = fun-ext waits i; tables = tables i }
 
-module _ {Msg Table : Type 0} (x : Session Msg Table) where
+module _ {Msg Table : Type 0} (x : State Msg Table) where
   pub freed-next : freedAt x (x .next) ≡ none
   unfolding freedAt
   freed-next = chosen _ _ (eq-eqb (x .next) (x .next) refl)
@@ -37,13 +36,13 @@ module _ {Msg Table : Type 0} (x : Session Msg Table) where
     unfolding keptAt
     kept-old lo = chosen _ _ (lt-ltb k (x .next) lo)
 
-    pub kept-new : x .next ≤ k → keptAt x p k ≡ firstOf (x .waiting k) (copyOf p k)
+    pub kept-new : x .next ≤ k → keptAt x p k ≡ firstThere (x .waiting k) (copyOf p k)
     unfolding keptAt
     kept-new hi = chosen _ _ (le-ltb k (x .next) hi)
 
     -- Both at once.
     kept-by : {o : Option Msg} → (k < x .next → x .waiting k ≡ o)
-        → (x .next ≤ k → firstOf (x .waiting k) (copyOf p k) ≡ o) → keptAt x p k ≡ o
+        → (x .next ≤ k → firstThere (x .waiting k) (copyOf p k) ≡ o) → keptAt x p k ≡ o
     kept-by below from =
         by-cases (decLt k (x .next))
         (λ l. kept-old l ∙ below l)
@@ -51,23 +50,23 @@ module _ {Msg Table : Type 0} (x : Session Msg Table) where
 
     -- A number of which the packet has no copy keeps what waits under it.
     pub kept-none : copyOf p k ≡ none → keptAt x p k ≡ x .waiting k
-    kept-none e = kept-by (λ l. refl) (λ l. ap (firstOf (x .waiting k)) e ∙ first-none (x .waiting k))
+    kept-none e = kept-by (λ l. refl) (λ l. ap (firstThere (x .waiting k)) e ∙ first-none (x .waiting k))
 
     -- A number that waits keeps its copy.
     pub kept-again : {m : Msg} → x .waiting k ≡ some m → keptAt x p k ≡ x .waiting k
-    kept-again e = kept-by (λ l. refl) (λ l. ap (λ (o : Option Msg). firstOf o (copyOf p k)) e ∙ sym e)
+    kept-again e = kept-by (λ l. refl) (λ l. ap (λ (o : Option Msg). firstThere o (copyOf p k)) e ∙ sym e)
 
     -- Under test 10 a new copy may as well replace the one that waits.
-    pub kept-either : Agrees x p → firstOf (x .waiting k) (copyOf p k) ≡ firstOf (copyOf p k) (x .waiting k)
+    pub kept-either : Agrees x p → firstThere (x .waiting k) (copyOf p k) ≡ firstThere (copyOf p k) (x .waiting k)
     kept-either agrees = go (x .waiting k) (copyOf p k) (agrees k)
       where
-        go : (o o′ : Option Msg) → ((m m′ : Msg) → o ≡ some m → o′ ≡ some m′ → m ≡ m′) → firstOf o o′ ≡ firstOf o′ o
+        go : (o o′ : Option Msg) → ((m m′ : Msg) → o ≡ some m → o′ ≡ some m′ → m ≡ m′) → firstThere o o′ ≡ firstThere o′ o
         go none none same = refl
         go none (some m′) same = refl
         go (some m) none same = refl
         go (some m) (some m′) same = ap {B = Option Msg} some (same m m′ refl refl)
 
-module _ {Msg Table : Type 0} (x : Session Msg Table) where
+module _ {Msg Table : Type 0} (x : State Msg Table) where
   -- A heartbeat can raise end and does nothing else.
   pub keep-heartbeat : (n : ℕ) → keep x (heartbeat n) ≡ record { next = x .next; end = max (x .end) n; waiting = x .waiting; tables = x .tables }
   unfolding keep
@@ -85,7 +84,7 @@ module _ {Msg Table : Type 0} (x : Session Msg Table) where
         rest : Packet Msg
         rest = packet (n + 1) ms
 
-        y : Session Msg Table
+        y : State Msg Table
         y = keep x (single n m)
 
         waits : (k : ℕ) → keptAt x (packet n (m ∷ ms)) k ≡ keptAt y rest k
@@ -93,65 +92,6 @@ module _ {Msg Table : Type 0} (x : Session Msg Table) where
             kept-by x (packet n (m ∷ ms)) k
             (λ l. sym (kept-old y rest k l ∙ kept-old x (single n m) k l))
             (λ up.
-            ap (firstOf (x .waiting k)) (copy-cons n m ms k)
+            ap (firstThere (x .waiting k)) (copy-cons n m ms k)
             ∙ first-assoc (x .waiting k) (copyOf (single n m) k) (copyOf rest k)
-            ∙ sym (kept-new y rest k up ∙ ap (λ (o : Option Msg). firstOf o (copyOf rest k)) (kept-new x (single n m) k up)))
-
-    -- A message below next is passed over.
-    pub keep-skip : n < x .next → keep x (packet n (m ∷ ms)) ≡ keep x (packet (n + 1) ms)
-    unfolding keep
-    keep-skip below = same-session refl (omega arith) waits refl
-      where
-        rest : Packet Msg
-        rest = packet (n + 1) ms
-
-        waits : (k : ℕ) → keptAt x (packet n (m ∷ ms)) k ≡ keptAt x rest k
-        waits k =
-            kept-by x (packet n (m ∷ ms)) k
-            (λ l. sym (kept-old x rest k l))
-            (λ up. ap (firstOf (x .waiting k)) (copy-rest n m ms k (omega arith)) ∙ sym (kept-new x rest k up))
-
-    -- Test 10 goes the same way.
-    pub agrees-first : Agrees x (packet n (m ∷ ms)) → Agrees x (single n m)
-    agrees-first agrees k a b e f = agrees k a b e (cc (copy-cons n m ms k))
-
-    pub agrees-rest : Agrees x (packet n (m ∷ ms)) → Agrees (keep x (single n m)) (packet (n + 1) ms)
-    unfolding keep
-    agrees-rest agrees k a b e f =
-        let behind : Carries (packet (n + 1) ms) k = told-yes (copy-told (packet (n + 1) ms) k) f in
-        let other : copyOf (single n m) k ≡ none = copy-other n m k (λ q. omega (arith, behind .low)) in
-        agrees k a b (sym (kept-none x (single n m) k other) ∙ e) (cc (copy-cons n m ms k))
-
-  -- A message that comes at next, where nothing waits, may be applied as it comes.
-  pub keep-direct : (feed : Feed Msg Table) (c : ℕ) (m : Msg) (ms : List Msg) → x .waiting (x .next) ≡ none
-      → applyUpTo feed (suc c) (keep x (packet (x .next) (m ∷ ms))) ≡ applyUpTo feed c (keep (direct feed x m) (packet (x .next + 1) ms))
-  unfolding applyUpTo step keep direct
-  keep-direct feed c m ms e = ap (λ (o : Option Msg). applyUpTo feed c (step feed y o)) front ∙ ap (applyUpTo feed c) same
-    where
-      whole : Packet Msg
-      whole = packet (x .next) (m ∷ ms)
-
-      rest : Packet Msg
-      rest = packet (x .next + 1) ms
-
-      y : Session Msg Table
-      y = keep x whole
-
-      z : Session Msg Table
-      z = direct feed x m
-
-      front : keptAt x whole (x .next) ≡ some m
-      front = cc (kept-new x whole (x .next) (omega arith), copy-head (x .next) m ms)
-
-      others : (k : ℕ) → ¬ (k ≡ x .next) → freedAt y k ≡ keptAt z rest k
-      others k ne =
-          freed-other y k ne
-          ∙ kept-by x whole k
-          (λ l. sym (kept-old z rest k (omega arith)))
-          (λ up. ap (firstOf (x .waiting k)) (copy-rest (x .next) m ms k ne) ∙ sym (kept-new z rest k (omega arith)))
-
-      waits : (k : ℕ) → freedAt y k ≡ keptAt z rest k
-      waits = agree (freedAt y) (keptAt z rest) (x .next) (freed-next y ∙ sym (kept-old z rest (x .next) (omega arith) ∙ e)) others
-
-      same : step feed y (some m) ≡ keep z rest
-      same = same-session refl (omega arith) waits refl
+            ∙ sym (kept-new y rest k up ∙ ap (λ (o : Option Msg). firstThere o (copyOf rest k)) (kept-new x (single n m) k up)))

@@ -11,7 +11,7 @@ use mathlib.Core.Option.{Option, none, some, Option·none-ne-some}
 use borrow.Author.Tests.{leb-true, leb-false, le-leb}
 use lib.Dec.{leb}
 use lib.ListN.{length, getElem?}
-use Rattle.merge.specs.Session.{Packet, endOf, copyOf, firstOf, packet, single}
+use Rattle.merge.specs.State.{Packet, endOf, copyOf, firstThere, packet, single}
 use Rattle.merge.specs.History.{Carries, Carried, here, later, firstCopy, largestEnd}
 
 -- A choice whose test is known.
@@ -81,11 +81,11 @@ module _ {Msg : Type 0} where
 
   -- The copies of a packet are that of its first message and those of the rest.
   pub copy-cons : (n : ℕ) (m : Msg) (ms : List Msg) (k : ℕ)
-      → copyOf (packet n (m ∷ ms)) k ≡ firstOf (copyOf (single n m) k) (copyOf (packet (n + 1) ms) k)
+      → copyOf (packet n (m ∷ ms)) k ≡ firstThere (copyOf (single n m) k) (copyOf (packet (n + 1) ms) k)
   copy-cons n m ms k = by-cases (ℕ-discrete k n) at λ ne. by-cases (decLt k n) (before ne) (λ l. behind ne (omega arith))
     where
       Split : Type 0
-      Split = copyOf (packet n (m ∷ ms)) k ≡ firstOf (copyOf (single n m) k) (copyOf (packet (n + 1) ms) k)
+      Split = copyOf (packet n (m ∷ ms)) k ≡ firstThere (copyOf (single n m) k) (copyOf (packet (n + 1) ms) k)
 
       at : k ≡ n → Split
       at e = cc (copy-head n m ms, copy-head n m [])
@@ -111,10 +111,10 @@ module _ {Msg : Type 0} where
   carried-cons n (later c) = c
 
   first-by : {p : Packet Msg} {h : List (Packet Msg)} {k : ℕ} {o : Option Msg} → Told o (Carries p k) → Told (firstCopy h k) (Carried k h)
-      → Told (firstOf o (firstCopy h k)) (Carried k (p ∷ h))
-  first-by {h = h} {k = k} (there m e c) t = there m (ap (λ (o : Option Msg). firstOf o (firstCopy h k)) e) (here c)
+      → Told (firstThere o (firstCopy h k)) (Carried k (p ∷ h))
+  first-by {h = h} {k = k} (there m e c) t = there m (ap (λ (o : Option Msg). firstThere o (firstCopy h k)) e) (here c)
   first-by {h = h} {k = k} (nowhere e n) t =
-      told-iff (sym (ap (λ (o : Option Msg). firstOf o (firstCopy h k)) e)) later (carried-cons n) t
+      told-iff (sym (ap (λ (o : Option Msg). firstThere o (firstCopy h k)) e)) later (carried-cons n) t
 
   -- There is a first copy of message k exactly if k was carried.
   pub first-told : (h : List (Packet Msg)) (k : ℕ) → Told (firstCopy h k) (Carried k h)
@@ -131,26 +131,26 @@ module _ {Msg : Type 0} where
   carried-last [] c = here c
   carried-last (q ∷ h) c = later (carried-last h c)
 
-  pub first-none : (o : Option Msg) → firstOf o none ≡ o
+  pub first-none : (o : Option Msg) → firstThere o none ≡ o
   first-none none = refl
   first-none (some m) = refl
 
-  pub first-assoc : (a b c : Option Msg) → firstOf a (firstOf b c) ≡ firstOf (firstOf a b) c
+  pub first-assoc : (a b c : Option Msg) → firstThere a (firstThere b c) ≡ firstThere (firstThere a b) c
   first-assoc none b c = refl
   first-assoc (some m) b c = refl
 
   pub first-last : (h : List (Packet Msg)) (p : Packet Msg) (k : ℕ)
-      → firstCopy (h ++ (p ∷ [])) k ≡ firstOf (firstCopy h k) (copyOf p k)
+      → firstCopy (h ++ (p ∷ [])) k ≡ firstThere (firstCopy h k) (copyOf p k)
   unfolding firstCopy
   first-last [] p k = first-none (copyOf p k)
   first-last (q ∷ h) p k =
-      ap (firstOf (copyOf q k)) (first-last h p k) ∙ first-assoc (copyOf q k) (firstCopy h k) (copyOf p k)
+      ap (firstThere (copyOf q k)) (first-last h p k) ∙ first-assoc (copyOf q k) (firstCopy h k) (copyOf p k)
 
   -- What was carried keeps its first copy.
   pub first-stays : (h : List (Packet Msg)) (p : Packet Msg) (k : ℕ) → Carried k h → firstCopy (h ++ (p ∷ [])) k ≡ firstCopy h k
   first-stays h p k c =
       let e = told-copy (first-told h k) c in
-      first-last h p k ∙ ap (λ (o : Option Msg). firstOf o (copyOf p k)) (e .1) ∙ sym (e .1)
+      first-last h p k ∙ ap (λ (o : Option Msg). firstThere o (copyOf p k)) (e .1) ∙ sym (e .1)
 
   pub end-last : (s : ℕ) (h : List (Packet Msg)) (p : Packet Msg) → largestEnd s (h ++ (p ∷ [])) ≡ max (largestEnd s h) (endOf p)
   unfolding largestEnd

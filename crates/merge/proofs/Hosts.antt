@@ -4,7 +4,7 @@ use Prim.Native.Nat.{ℕ, _≤_, _<_}
 use mathlib.Core.Path.{_≡_, sym, ap, _∙_, subst}
 use mathlib.Core.List.{List}
 use mathlib.Core.Option.{Option, some}
-use Rattle.merge.specs.Session.{Feed, Packet, Session}
+use Rattle.merge.specs.State.{Feed, Packet, State}
 use Rattle.merge.specs.History.{Carried, Lowest, firstCopy, Genuine, tablesOf, sentTables}
 use Rattle.merge.specs.Promise.{Demand3}
 use Rattle.merge.proofs.Copies.{told-yes, told-copy, first-told}
@@ -20,7 +20,7 @@ module _ {Msg : Type 0} {s : ℕ} {g h : List (Packet Msg)} (same : (k : ℕ) �
         missing = λ c. low .missing (told-yes (first-told g n) (same n (low .from) ∙ (told-copy (first-told h n) c) .1));
       }
 
-module _ {Msg Table : Type 0} {feed : Feed Msg Table} {s : ℕ} {g h : List (Packet Msg)} {x y : Session Msg Table} (one : Demand3 feed s g x) (other : Demand3 feed s h y) where
+module _ {Msg Table : Type 0} {feed : Feed Msg Table} {s : ℕ} {g h : List (Packet Msg)} {x y : State Msg Table} (one : Demand3 feed s g x) (other : Demand3 feed s h y) where
   -- Two hosts with one opening and one next, and the same first copy of each number below it, hold equal tables.
   pub hosts-agree : x .next ≡ y .next → ((k : ℕ) → s ≤ k → k < x .next → firstCopy g k ≡ firstCopy h k) → x .tables ≡ y .tables
   hosts-agree at same =
@@ -41,5 +41,5 @@ module _ {Msg Table : Type 0} (feed : Feed Msg Table) (sent : ℕ → Msg) {s : 
       let c = told-copy (first-told h k) (carried k lo hi) in
       c .1 ∙ ap {B = Option Msg} some (genuine k (c .0) (c .1))
 
-  pub host-sent : {x : Session Msg Table} → Demand3 feed s h x → x .tables ≡ sentTables feed sent s (x .next)
+  pub host-sent : {x : State Msg Table} → Demand3 feed s h x → x .tables ≡ sentTables feed sent s (x .next)
   host-sent {x} one = one .tables (x .next) (one .lowest) ∙ range-sent (x .next) (one .lowest .carried)

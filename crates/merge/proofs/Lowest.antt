@@ -1,13 +1,13 @@
 -- The lowest number not carried: there is one only, next never stands above it, and applying comes as near to it as its count allows.
 -- Assumes nothing.
-use Prim.Native.Nat.{ℕ, zero, suc, _+_, _-_, _≤_, _<_, min}
+use Prim.Native.Nat.{ℕ, zero, suc, _+_, _-_, _≤_, _<_}
 use native.Mathlib.Decide.{decLt}
 use native.Mathlib.Omega.{arith}
 use mathlib.Core.Path.{_≡_, refl, sym, ap, _∙_, subst}
 use mathlib.Core.List.{List, [], _∷_, _++_}
 use mathlib.Core.Logic.{by-cases}
 use mathlib.Core.Option.{Option, none, some}
-use Rattle.merge.specs.Session.{Feed, Packet, Session, endOf, keep, step, applyUpTo}
+use Rattle.merge.specs.State.{Feed, Packet, State, endOf, keep, step, applyUpTo}
 use Rattle.merge.specs.History.{Carried, Lowest}
 use Rattle.merge.specs.Promise.{Inv, Fits}
 use Rattle.merge.proofs.Copies.{told-no, told-none, first-told, carried-last}
@@ -23,40 +23,32 @@ module _ {Msg : Type 0} {s : ℕ} {h : List (Packet Msg)} where
 
 module _ {Msg Table : Type 0} where
   -- Applying up to c either takes c steps or stops at a number that does not wait.
-  data Went (c : ℕ) (x y : Session Msg Table) : Type 0 where
+  data Went (c : ℕ) (x y : State Msg Table) : Type 0 where
     all : y .next ≡ x .next + c → Went c x y
     stopped : x .next ≤ y .next → y .next ≤ x .next + c → y .waiting (y .next) ≡ none → Went c x y
 
-  went-more : {c : ℕ} {x y z : Session Msg Table} → y .next ≡ x .next + 1 → Went c y z → Went (suc c) x z
+  went-more : {c : ℕ} {x y z : State Msg Table} → y .next ≡ x .next + 1 → Went c y z → Went (suc c) x z
   went-more one (all e) = all (omega arith)
   went-more one (stopped lo hi e) = stopped (omega arith) (omega arith) e
 
 module _ {Msg Table : Type 0} (feed : Feed Msg Table) where
   -- Where nothing waits at next, applying does nothing.
-  pub stuck : (c : ℕ) {x : Session Msg Table} → x .waiting (x .next) ≡ none → applyUpTo feed c x ≡ x
+  pub stuck : (c : ℕ) {x : State Msg Table} → x .waiting (x .next) ≡ none → applyUpTo feed c x ≡ x
   unfolding applyUpTo step
   stuck zero e = refl
   stuck (suc c) {x} e = ap (λ (o : Option Msg). applyUpTo feed c (step feed x o)) e ∙ stuck c e
 
-  went : (c : ℕ) (x : Session Msg Table) → Went c x (applyUpTo feed c x)
+  went : (c : ℕ) (x : State Msg Table) → Went c x (applyUpTo feed c x)
   unfolding applyUpTo step
   went zero x = all (omega arith)
   went (suc c) x = go (x .waiting (x .next)) refl (went c)
     where
-      go : (o : Option Msg) → x .waiting (x .next) ≡ o → ((y : Session Msg Table) → Went c y (applyUpTo feed c y))
+      go : (o : Option Msg) → x .waiting (x .next) ≡ o → ((y : State Msg Table) → Went c y (applyUpTo feed c y))
           → Went (suc c) x (applyUpTo feed c (step feed x o))
       go none e more = subst (Went (suc c) x) (sym (stuck c e)) (stopped (omega arith) (omega arith) e)
       go (some m) e more = went-more refl (more (step feed x (some m)))
 
-  -- Next never falls, so the count of what a call applied is its rise.
-  pub apply-rises : (c : ℕ) (x : Session Msg Table) → x .next ≤ (applyUpTo feed c x) .next
-  apply-rises c x = go (went c x)
-    where
-      go : {y : Session Msg Table} → Went c x y → x .next ≤ y .next
-      go (all e) = omega arith
-      go (stopped lo hi e) = lo
-
-module _ {Msg Table : Type 0} {feed : Feed Msg Table} {W s : ℕ} {h : List (Packet Msg)} {x : Session Msg Table} (inv : Inv feed W s h x) where
+module _ {Msg Table : Type 0} {feed : Feed Msg Table} {W s : ℕ} {h : List (Packet Msg)} {x : State Msg Table} (inv : Inv feed W s h x) where
   -- Next never stands above the lowest number not carried, and where nothing waits at next, it is that number.
   pub next-below : {n : ℕ} → Lowest s h n → x .next ≤ n
   next-below low = below (inv .passed) low
@@ -72,12 +64,12 @@ module _ {Msg Table : Type 0} {feed : Feed Msg Table} {W s : ℕ} {h : List (Pac
   pub front-free : Lowest s h (x .next) → x .waiting (x .next) ≡ none
   front-free low = inv .waits (x .next) (omega arith) ∙ told-none (first-told h (x .next)) (low .missing)
 
-module _ {Msg Table : Type 0} {feed : Feed Msg Table} {W s : ℕ} {h : List (Packet Msg)} {x : Session Msg Table} (inv : Inv feed W s h x) where
+module _ {Msg Table : Type 0} {feed : Feed Msg Table} {W s : ℕ} {h : List (Packet Msg)} {x : State Msg Table} (inv : Inv feed W s h x) where
   -- All that waits lies within the window, so applying up to W leaves nothing that could be applied.
   pub apply-settles : (applyUpTo feed W x) .waiting ((applyUpTo feed W x) .next) ≡ none
   apply-settles = go (went feed W x)
     where
-      y : Session Msg Table
+      y : State Msg Table
       y = applyUpTo feed W x
 
       after : Inv feed W s h y
@@ -92,17 +84,6 @@ module _ {Msg Table : Type 0} {feed : Feed Msg Table} {W s : ℕ} {h : List (Pac
 
   pub apply-lowest : Lowest s h ((applyUpTo feed W x) .next)
   apply-lowest = stuck-lowest (apply-inv feed W s W inv) apply-settles
-
-  -- Applying up to c moves next on by c, or to the lowest number not carried if that is nearer.
-  pub apply-moves : (c : ℕ) {n : ℕ} → Lowest s h n → (applyUpTo feed c x) .next ≡ x .next + min c (n - x .next)
-  apply-moves c {n} low = go (went feed c x)
-    where
-      after : Inv feed W s h (applyUpTo feed c x)
-      after = apply-inv feed W s c inv
-
-      go : Went c x (applyUpTo feed c x) → (applyUpTo feed c x) .next ≡ x .next + min c (n - x .next)
-      go (all e) = omega (arith, next-below after low)
-      go (stopped lo hi e) = omega (arith, lowest-unique low (stuck-lowest after e))
 
   -- Once a packet that starts at or below next is kept, the lowest number not carried is past its last number.
   pub keep-past : (p : Packet Msg) {n : ℕ} → Fits W x p → p .first ≤ x .next → Lowest s (h ++ (p ∷ [])) n → endOf p ≤ n

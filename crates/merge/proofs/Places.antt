@@ -6,15 +6,13 @@ use native.Mathlib.Decide.{decLt, ℕ-discrete}
 use native.Mathlib.Omega.{arith}
 use mathlib.Core.Path.{_≡_, refl, sym, ap, ap₂, _∙_}
 use mathlib.Core.Bool.{Bool, _&&_}
-use mathlib.Core.List.{List, []}
+use mathlib.Core.List.{[]}
 use mathlib.Core.Logic.{by-cases}
 use mathlib.Core.Option.{Option, none, some}
 use borrow.Author.Tests.{le-leb, lt-leb, lt-ltb, le-ltb}
 use lib.Dec.{ltb}
-use lib.ListN.{length, set}
-use lib.Seq.{getD-set-same, getD-set-other}
-use Rattle.merge.specs.Session.{Feed, Packet, Session, firstOf, single, opened, keep, keptAt, freedAt, step, direct}
-use Rattle.merge.specs.Places.{numberAt, listed, waitingIn, Put, InPlaces}
+use Rattle.merge.specs.State.{Feed, Packet, State, firstThere, single, keep, keptAt, freedAt, step}
+use Rattle.merge.specs.Places.{numberAt, waitingIn, Put, InPlaces}
 use Rattle.merge.specs.Promise.{Agrees}
 use Rattle.merge.proofs.Copies.{chosen, copy-head, copy-other}
 use Rattle.merge.proofs.Clauses.{agree, kept-new, kept-none, kept-either, freed-next, freed-other}
@@ -73,14 +71,6 @@ module _ {Msg : Type 0} (W : ℕ) (place : ℕ → Option Msg) (next k : ℕ) wh
   unfolding waitingIn
   waiting-above hi = chosen _ _ (ap₂ _&&_ (le-leb next k (omega arith)) (le-ltb k (next + W) hi))
 
-  waiting-empty : ((i : ℕ) → i < W → place i ≡ none) → waitingIn W place next k ≡ none
-  waiting-empty empty = go (window W next k)
-    where
-      go : Window W next k → waitingIn W place next k ≡ none
-      go (below l) = waiting-below l
-      go (inside lo hi) = waiting-inside lo hi ∙ empty (k % W) (mod-lt k (omega arith))
-      go (above l) = waiting-above l
-
 -- The place of number k rewritten.
 module _ {Msg : Type 0} {W : ℕ} {before after : ℕ → Option Msg} {k : ℕ} {content : Option Msg} (put : Put W before after (k % W) content) where
   -- A number that shares the window with k has its own place, which stays.
@@ -123,16 +113,7 @@ module _ {Msg : Type 0} {W : ℕ} {before after : ℕ → Option Msg} {k : ℕ} 
           (λ n. waiting-above W after (k + 1) j (omega arith))
           ∙ sym (waiting-above W before k j l)
 
--- Of places in a list, one is rewritten by `set`.
-pub set-put : {Msg : Type 0} (W : ℕ) (places : List (Option Msg)) (i : ℕ) (content : Option Msg) → length places ≡ W → i < W
-    → Put W (listed places) (listed (set places i content)) i content
-set-put W places i content size lo =
-    record {
-      there = getD-set-same places i content none (omega arith);
-      others = λ j hi ne. getD-set-other places i j content none ne;
-    }
-
-module _ {Msg Table : Type 0} {W : ℕ} {place : ℕ → Option Msg} {x : Session Msg Table} (held : InPlaces W place x) where
+module _ {Msg Table : Type 0} {W : ℕ} {place : ℕ → Option Msg} {x : State Msg Table} (held : InPlaces W place x) where
   -- What waits under a number of the window stands at its place, and a place holds what waits under its number.
   pub held-at : (k : ℕ) → x .next ≤ k → k < x .next + W → x .waiting k ≡ place (k % W)
   held-at k lo hi = held .holds k ∙ waiting-inside W place (x .next) k lo hi
@@ -141,11 +122,6 @@ module _ {Msg Table : Type 0} {W : ℕ} {place : ℕ → Option Msg} {x : Sessio
   held-place i lo =
       let k = numberAt W (x .next) i in
       sym (held-at k (number-low W (x .next) i lo) (number-high W (x .next) i lo) ∙ ap place (number-place W (x .next) i lo))
-
-  -- A packet that leaves all that waits as it is leaves the places.
-  pub keep-held : (p : Packet Msg) → ((k : ℕ) → keptAt x p k ≡ x .waiting k) → InPlaces W place (keep x p)
-  unfolding keep
-  keep-held p same = record { holds = λ k. same k ∙ held .holds k }
 
   -- Keeping message m under number k of the window is storing it at the place of k. Under test 10 it replaces nothing but its equal.
   pub keep-put : {after : ℕ → Option Msg} (k : ℕ) (m : Msg) → x .next ≤ k → k < x .next + W → Agrees x (single k m)
@@ -158,7 +134,7 @@ module _ {Msg Table : Type 0} {W : ℕ} {place : ℕ → Option Msg} {x : Sessio
             agree (keptAt x p) (waitingIn W after (x .next)) k
             (kept-new x p k lo
             ∙ kept-either x p k agrees
-            ∙ ap (λ (o : Option Msg). firstOf o (x .waiting k)) (copy-head k m [])
+            ∙ ap (λ (o : Option Msg). firstThere o (x .waiting k)) (copy-head k m [])
             ∙ sym (put-same put (x .next) lo hi))
             (λ j ne. kept-none x p j (copy-other k m j ne) ∙ held .holds j ∙ sym (put-other put (x .next) j lo hi ne));
       }
@@ -174,22 +150,3 @@ module _ {Msg Table : Type 0} {W : ℕ} {place : ℕ → Option Msg} {x : Sessio
             (freed-next x ∙ sym (waiting-below W after (x .next + 1) (x .next) (omega arith)))
             (λ j ne. freed-other x j ne ∙ held .holds j ∙ sym (free-other put refl j ne));
       }
-
-  -- A message applied as it comes leaves the places.
-  pub direct-held : (feed : Feed Msg Table) (m : Msg) → 0 < W → x .waiting (x .next) ≡ none → InPlaces W place (direct feed x m)
-  unfolding direct
-  direct-held feed m pos e =
-      let put : Put W place place (x .next % W) none =
-      record { there = sym (held-at (x .next) (omega arith) (omega arith)) ∙ e; others = λ j lo ne. refl } in
-      record {
-        holds =
-            agree (x .waiting) (waitingIn W place (x .next + 1)) (x .next)
-            (e ∙ sym (waiting-below W place (x .next + 1) (x .next) (omega arith)))
-            (λ j ne. held .holds j ∙ sym (free-other put refl j ne));
-      }
-
--- Free places are those of a fresh session.
-pub opened-held : {Msg Table : Type 0} (feed : Feed Msg Table) (W s : ℕ) (place : ℕ → Option Msg) → ((i : ℕ) → i < W → place i ≡ none)
-    → InPlaces W place (opened feed s)
-unfolding opened
-opened-held feed W s place empty = record { holds = λ k. sym (waiting-empty W place s k empty) }

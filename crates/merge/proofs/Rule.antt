@@ -7,12 +7,12 @@ use mathlib.Core.Path.{_≡_, refl, sym, ap, _∙_, subst}
 use mathlib.Core.List.{List, [], _∷_, _++_}
 use mathlib.Core.Logic.{by-cases}
 use mathlib.Core.Option.{Option, none, some}
-use Rattle.merge.specs.Session.{Feed, Packet, Session, endOf, copyOf, firstOf, opened, keep, freedAt, step, applyUpTo}
+use Rattle.merge.specs.State.{Feed, Packet, State, endOf, copyOf, firstThere, opened, keep, freedAt, step, applyUpTo}
 use Rattle.merge.specs.History.{Carried, firstCopy, largestEnd, applied, tablesOf}
 use Rattle.merge.specs.Promise.{Inv, Fits}
 use Rattle.merge.proofs.Copies.{told-yes, copy-none, first-told, carried-more, first-last, first-stays, end-last}
 use Rattle.merge.proofs.Tables.{tables-agree, tables-none, tables-more}
-use Rattle.merge.proofs.Clauses.{same-session, kept-old, kept-new, kept-none, freed-next, freed-other}
+use Rattle.merge.proofs.Clauses.{kept-old, kept-new, kept-none, freed-next, freed-other}
 
 module _ {Msg Table : Type 0} (feed : Feed Msg Table) (W s : ℕ) where
   pub opened-inv : Inv feed W s [] (opened feed s)
@@ -28,7 +28,7 @@ module _ {Msg Table : Type 0} (feed : Feed Msg Table) (W s : ℕ) where
         end = refl;
       }
 
-  module _ {h : List (Packet Msg)} {x : Session Msg Table} (inv : Inv feed W s h x) where
+  module _ {h : List (Packet Msg)} {x : State Msg Table} (inv : Inv feed W s h x) where
     pub keep-inv : (p : Packet Msg) → Fits W x p → Inv feed W s (h ++ (p ∷ [])) (keep x p)
     unfolding keep
     keep-inv p fits =
@@ -38,7 +38,7 @@ module _ {Msg Table : Type 0} (feed : Feed Msg Table) (W s : ℕ) where
           old = λ k lo. kept-old x p k lo ∙ inv .old k lo;
           waits =
               λ k hi.
-              kept-new x p k hi ∙ ap (λ (o : Option Msg). firstOf o (copyOf p k)) (inv .waits k hi) ∙ sym (first-last h p k);
+              kept-new x p k hi ∙ ap (λ (o : Option Msg). firstThere o (copyOf p k)) (inv .waits k hi) ∙ sym (first-last h p k);
           near = λ k hi. kept-none x p k (copy-none p k λ c. omega (arith, fits k c)) ∙ inv .near k hi;
           tables =
               inv .tables
@@ -78,21 +78,8 @@ module _ {Msg Table : Type 0} (feed : Feed Msg Table) (W s : ℕ) where
           end = inv .end;
         }
 
-  pub apply-inv : (c : ℕ) {h : List (Packet Msg)} {x : Session Msg Table} → Inv feed W s h x
+  pub apply-inv : (c : ℕ) {h : List (Packet Msg)} {x : State Msg Table} → Inv feed W s h x
       → Inv feed W s h (applyUpTo feed c x)
   unfolding applyUpTo
   apply-inv zero inv = inv
   apply-inv (suc c) {x = x} inv = apply-inv c (step-inv inv (x .waiting (x .next)) refl)
-
-  -- The history and next determine the session.
-  pub inv-unique : {h : List (Packet Msg)} {x y : Session Msg Table} → Inv feed W s h x → Inv feed W s h y
-      → x .next ≡ y .next → x ≡ y
-  inv-unique {h} {x} {y} one other at =
-      same-session at (one .end ∙ sym (other .end)) waits
-      (one .tables ∙ ap (λ (n : ℕ). tablesOf feed s n h) at ∙ sym (other .tables))
-    where
-      waits : (k : ℕ) → x .waiting k ≡ y .waiting k
-      waits k =
-          by-cases (decLt k (x .next))
-          (λ l. one .old k l ∙ sym (other .old k (omega arith)))
-          (λ l. one .waits k (omega arith) ∙ sym (other .waits k (omega arith)))

@@ -5,7 +5,7 @@ use native.Mathlib.Omega.{arith}
 use mathlib.Core.Path.{_≡_, refl, ap, ap₂, _∙_}
 use mathlib.Core.List.{List}
 use mathlib.Core.Option.{Option}
-use Rattle.merge.specs.Session.{Feed, Packet}
+use Rattle.merge.specs.State.{Feed, Packet}
 use Rattle.merge.specs.History.{firstCopy, applied, running, tablesOf}
 
 module _ {Msg Table : Type 0} (feed : Feed Msg Table) where

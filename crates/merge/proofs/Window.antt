@@ -7,26 +7,18 @@ use mathlib.Core.Path.{_≡_, refl, sym, _∙_, subst}
 use mathlib.Core.List.{List, [], _∷_}
 use mathlib.Core.Logic.{by-cases}
 use mathlib.Core.Option.{Option, none, some, Option·none-ne-some}
-use lib.ListN.{length}
-use Rattle.merge.specs.Session.{Feed, Packet, Session, endOf, heartbeat}
+use Rattle.merge.specs.State.{Feed, Packet, State, endOf, heartbeat}
 use Rattle.merge.specs.History.{Carried, here, later, largestEnd}
 use Rattle.merge.specs.Promise.{Inv, Fits, Waits}
 use Rattle.merge.proofs.Copies.{Told, told-yes, first-told}
 
-module _ {Msg Table : Type 0} (W : ℕ) (x : Session Msg Table) where
+module _ {Msg Table : Type 0} (W : ℕ) (x : State Msg Table) where
   -- A packet fits exactly if its last number is below next + W; a heartbeat has none and always fits.
   pub fits-end : (p : Packet Msg) → endOf p ≤ x .next + W → Fits W x p
   fits-end p hi k c = omega (arith, c .high)
 
-  pub end-fits : (p : Packet Msg) → 0 < length (p .messages) → Fits W x p → endOf p ≤ x .next + W
-  end-fits p any fits = omega (arith, fits (endOf p - 1) (record { low = omega arith; high = omega arith }))
-
   pub fits-heartbeat : (n : ℕ) → Fits W x (heartbeat n)
   fits-heartbeat n k c = absurd (omega (arith, c .low, c .high))
-
-  -- A packet of at most W messages that starts at or below next never meets test 9.
-  pub fits-start : (p : Packet Msg) → p .first ≤ x .next → length (p .messages) ≤ W → Fits W x p
-  fits-start p start few = fits-end p (omega arith)
 
 module _ {Msg : Type 0} where
   pub end-start : (s : ℕ) (h : List (Packet Msg)) → s ≤ largestEnd s h
@@ -39,7 +31,7 @@ module _ {Msg : Type 0} where
   end-carried s (here c) = omega (arith, c .high)
   end-carried s (later c) = omega (arith, end-carried s c)
 
-module _ {Msg Table : Type 0} {feed : Feed Msg Table} {W s : ℕ} {h : List (Packet Msg)} {x : Session Msg Table} (inv : Inv feed W s h x) where
+module _ {Msg Table : Type 0} {feed : Feed Msg Table} {W s : ℕ} {h : List (Packet Msg)} {x : State Msg Table} (inv : Inv feed W s h x) where
   pub next-end : x .next ≤ x .end
   next-end =
       by-cases (decLt s (x .next))

@@ -4,7 +4,7 @@ use Prim.Native.Nat.{ℕ, zero, suc, _+_, _-_, _≤_, _<_, max}
 use mathlib.Core.Path.{_≡_}
 use mathlib.Core.List.{List, [], _∷_}
 use mathlib.Core.Option.{Option, none, some}
-use Rattle.merge.specs.Session.{Feed, Packet, Session, Channel, endOf, copyOf, firstOf, takeOne}
+use Rattle.merge.specs.State.{Feed, Packet, State, Channel, endOf, copyOf, firstThere, takeOne}
 
 module _ {Msg : Type 0} where
   -- Packet p has a message numbered k.
@@ -26,7 +26,7 @@ module _ {Msg : Type 0} where
   -- Message k as the oldest packet that carries it has it.
   unfoldable pub firstCopy : List (Packet Msg) → ℕ → Option Msg
   firstCopy [] k = none
-  firstCopy (p ∷ h) k = firstOf (copyOf p k) (firstCopy h k)
+  firstCopy (p ∷ h) k = firstThere (copyOf p k) (firstCopy h k)
 
   -- The first copies are what the sender sent under their numbers.
   abbrev pub Genuine : (ℕ → Msg) → List (Packet Msg) → Type 0
@@ -63,6 +63,6 @@ module _ {Msg Table : Type 0} where
 
 module _ {Handed Msg Table : Type 0} where
   -- The history that calls make: of all that is handed in, what the judge lets pass.
-  unfoldable pub accepted : Channel Handed Msg Table → Session Msg Table → List Handed → List (Packet Msg)
+  unfoldable pub accepted : Channel Handed Msg Table → State Msg Table → List Handed → List (Packet Msg)
   accepted ch x [] = []
   accepted ch x (b ∷ bs) = joined (ch .judge x b) (accepted ch (takeOne ch x b) bs)

@@ -1,5 +1,5 @@
 -- What `merge` defines: taking numbered messages in any order, over any kind of message and any tables.
-pub mod Session
+pub mod State
 pub mod History
 pub mod Promise
 pub mod Places

@@ -3,21 +3,15 @@
 use Prim.Native.Nat.{ℕ, _+_, _-_, _%_, _<_}
 use mathlib.Core.Path.{_≡_}
 use mathlib.Core.Bool.{cond, _&&_}
-use mathlib.Core.List.{List}
 use mathlib.Core.Option.{Option, none}
 use lib.Dec.{leb, ltb}
-use lib.ListN.{getD}
-use Rattle.merge.specs.Session.{Session}
+use Rattle.merge.specs.State.{State}
 
 -- The other way round: the number of the window from next on that has the place i.
 unfoldable pub numberAt : ℕ → ℕ → ℕ → ℕ
 numberAt W next i = next + (i + (W - next % W)) % W
 
 module _ {Msg : Type 0} where
-  -- Places that are a list.
-  abbrev pub listed : List (Option Msg) → ℕ → Option Msg
-  listed places i = getD places i none
-
   -- What waits under k by the places: outside the window nothing, so that a place speaks of one number only.
   unfoldable pub waitingIn : ℕ → (ℕ → Option Msg) → ℕ → ℕ → Option Msg
   waitingIn W place next k = cond (leb next k && ltb k (next + W)) (place (k % W)) none
@@ -28,5 +22,5 @@ module _ {Msg : Type 0} where
     pub others : (j : ℕ) → j < W → ¬ (j ≡ i) → after j ≡ before j
 
 -- The places hold what waits in session x, and nothing else.
-pub record InPlaces {Msg Table : Type 0} (W : ℕ) (place : ℕ → Option Msg) (x : Session Msg Table) : Type 0 where
+pub record InPlaces {Msg Table : Type 0} (W : ℕ) (place : ℕ → Option Msg) (x : State Msg Table) : Type 0 where
   pub holds : (k : ℕ) → x .waiting k ≡ waitingIn W place (x .next) k

@@ -4,12 +4,12 @@ use Prim.Native.Nat.{ℕ, _+_, _≤_, _<_}
 use mathlib.Core.Path.{_≡_}
 use mathlib.Core.List.{List}
 use mathlib.Core.Option.{none, some}
-use Rattle.merge.specs.Session.{Feed, Packet, Session, Channel, copyOf}
+use Rattle.merge.specs.State.{Feed, Packet, State, Channel, copyOf}
 use Rattle.merge.specs.History.{Carries, Carried, Lowest, firstCopy, largestEnd, tablesOf}
 
 module _ {Msg Table : Type 0} where
-  -- Session x, opened at s, with history h and a window of W. Here next is the lowest number not applied; numbers that were carried may wait from it on.
-  pub record Inv (feed : Feed Msg Table) (W s : ℕ) (h : List (Packet Msg)) (x : Session Msg Table) : Type 0 where
+  -- State x, opened at s, with history h and a window of W. Here next is the lowest number not applied; numbers that were carried may wait from it on.
+  pub record Inv (feed : Feed Msg Table) (W s : ℕ) (h : List (Packet Msg)) (x : State Msg Table) : Type 0 where
     pub from : s ≤ x .next
     pub passed : (k : ℕ) → s ≤ k → k < x .next → Carried k h
     pub old : (k : ℕ) → k < x .next → x .waiting k ≡ none
@@ -19,34 +19,34 @@ module _ {Msg Table : Type 0} where
     pub end : x .end ≡ largestEnd s h
 
   -- The rule between calls: besides, nothing is left to apply, so that next is the lowest number not carried.
-  pub record Settled (feed : Feed Msg Table) (W s : ℕ) (h : List (Packet Msg)) (x : Session Msg Table) : Type 0 where
+  pub record Settled (feed : Feed Msg Table) (W s : ℕ) (h : List (Packet Msg)) (x : State Msg Table) : Type 0 where
     pub inv : Inv feed W s h x
     pub lowest : Lowest s h (x .next)
 
   -- Demand 3. The n of which it speaks is next; whichever n is lowest, the tables are those of s to n - 1.
-  pub record Demand3 (feed : Feed Msg Table) (s : ℕ) (h : List (Packet Msg)) (x : Session Msg Table) : Type 0 where
+  pub record Demand3 (feed : Feed Msg Table) (s : ℕ) (h : List (Packet Msg)) (x : State Msg Table) : Type 0 where
     pub lowest : Lowest s h (x .next)
     pub tables : (n : ℕ) → Lowest s h n → x .tables ≡ tablesOf feed s n h
     pub end : x .end ≡ largestEnd s h
 
   -- Where a number that waits can lie.
-  pub record Waits (W : ℕ) (x : Session Msg Table) (k : ℕ) : Type 0 where
+  pub record Waits (W : ℕ) (x : State Msg Table) (k : ℕ) : Type 0 where
     pub low : x .next ≤ k
     pub high : k < x .next + W
     pub known : k < x .end
 
   -- Test 9 passed: all numbers of the packet, its last among them, are below next + W.
-  abbrev pub Fits : ℕ → Session Msg Table → Packet Msg → Type 0
+  abbrev pub Fits : ℕ → State Msg Table → Packet Msg → Type 0
   Fits W x p = (k : ℕ) → Carries p k → k < x .next + W
 
   -- Test 10 passed: where a number of the packet waits, the two copies are equal.
-  abbrev pub Agrees : Session Msg Table → Packet Msg → Type 0
+  abbrev pub Agrees : State Msg Table → Packet Msg → Type 0
   Agrees x p = (k : ℕ) (m m′ : Msg) → x .waiting k ≡ some m → copyOf p k ≡ some m′ → m ≡ m′
 
 -- All that demand 3 asks of a judge: test 9. Which further packets it refuses is its own affair, and test 10 too, since the first copy is kept in any case.
 pub record Judged {Handed Msg Table : Type 0} (ch : Channel Handed Msg Table) : Type 0 where
-  pub fits : (x : Session Msg Table) (b : Handed) (p : Packet Msg) → ch .judge x b ≡ some p → Fits (ch .window) x p
+  pub fits : (x : State Msg Table) (b : Handed) (p : Packet Msg) → ch .judge x b ≡ some p → Fits (ch .window) x p
 
 -- The rule on a channel for a session opened at s, which the opening gives and every call keeps.
-abbrev pub Rule : {Handed Msg Table : Type 0} → Channel Handed Msg Table → ℕ → List (Packet Msg) → Session Msg Table → Type 0
+abbrev pub Rule : {Handed Msg Table : Type 0} → Channel Handed Msg Table → ℕ → List (Packet Msg) → State Msg Table → Type 0
 Rule ch s h x = Settled (ch .feed) (ch .window) s h x

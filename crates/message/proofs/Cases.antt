@@ -2,34 +2,64 @@
 -- Assumes nothing.
 use mathlib.Core.Path.{_≡_, refl, ap, _∙_, sym, subst}
 use mathlib.Core.Bool.{Bool, true, false, not, _&&_}
-use mathlib.Core.List.{List, [], _∷_}
+use mathlib.Core.List.{List, [], _∷_, map}
 use Prim.Native.Nat.{ℕ, _+_, _≤_, _<_}
-use borrow.Author.Tests.{eqb-false, eqb-true, ltb-false, ne-eqb}
-use lib.Dec.{eqb}
+use native.Mathlib.Omega.{arith}
+use borrow.Author.Tests.{eqb-false, eqb-true, ltb-false, ltb-true, ne-eqb}
+use lib.Dec.{eqb, ltb}
 use lib.ListN.{getD}
 use Rattle.wire.specs.Choice.{listedAt}
-use Rattle.wire.specs.Layout.{decode, widthOf}
+use Rattle.wire.specs.Layout.{Field, Value}
+use Rattle.fields.specs.Id.{goodId}
+use Rattle.fields.specs.Rules.{goodPrice, goodQuantity}
 use Rattle.fields.specs.Table.{tabulate}
 use Rattle.fields.proofs.Table.{entry}
 use Rattle.message.specs.Layouts.{head, layoutOf}
-use Rattle.message.specs.Row.{bare, fieldsOf, messageOf}
-use Rattle.message.specs.Rules.{goodBody}
-use Rattle.message.specs.Table.{below, payloadOf, payloadTable, tooShort}
-use Rattle.message.specs.declared.kinds.Body.the-variants.{Other}
+use Rattle.message.specs.Row.{bare, fieldsOf, messageOf, priceOf, typeOfTerms}
+use Rattle.message.specs.Rules.{FieldRule, brokenBy, brokenOf, firstAt, firstBroken, keeps, number, placed, rulesOf}
+use Rattle.message.specs.Table.{below, payloadOf, payloads, payloadTable, tooShort}
+use Rattle.message.specs.declared.kinds.Body.the-variants.{Execution, Other}
+use Rattle.message.specs.declared.kinds.Terms.{Terms}
+use Rattle.message.specs.declared.kinds.Terms.the-variants.{Published, Own}
 use Rattle.message.specs.declared.kinds.Message.{Message}
 use Rattle.message.specs.declared.kinds.Body.{Body}
 
--- the rules of a message whose kind is known
-pub kind-is : {body b : Body} (id symbol : List ℕ) (r : Bool) → body ≡ b → r ≡ goodBody id symbol b → r ≡ goodBody id symbol body
-kind-is id symbol r e h = h ∙ ap (goodBody id symbol) (sym e)
+-- the first broken field of a message whose kind is known
+pub kind-is : (m : Message) {b : Body} {r : ℕ} → m .body ≡ b → r ≡ brokenOf (record { id = m .id; symbol = m .symbol; firm = m .firm; body = b }) → r ≡ brokenOf m
+kind-is m e h = h ∙ ap (λ (b : Body). brokenOf (record { id = m .id; symbol = m .symbol; firm = m .firm; body = b })) (sym e)
 
--- one rule more: what `both` answers of an answer so far and the next one
-pub also : {a b x y r : Bool} → r ≡ (a && b) → a ≡ x → b ≡ y → r ≡ (x && y)
-also r f g = cc
+-- the first test by what it comes to
+pub tested : {r : ℕ} {k t : Bool} (at behind : ℕ) → r ≡ firstAt k at behind → k ≡ t → r ≡ firstAt t at behind
+tested at behind r e = cc
 
--- the fields of a message whose type is known
-pub type-is : {t k : ℕ} (s : List ℕ) (m : Message) → t ≡ k → m ≡ fieldsOf k s → m ≡ fieldsOf t s
-type-is s m e h = h ∙ ap (λ (n : ℕ). fieldsOf n s) (sym e)
+-- an execution by its terms, and in a message
+pub terms-are : {terms t : Terms} {r : ℕ} (named : Bool) (executed : ℕ) → terms ≡ t → r ≡ brokenBy (typeOfTerms t) (named ∷ goodQuantity executed ∷ map (number goodPrice) (priceOf t)) → r ≡ brokenBy (typeOfTerms terms) (named ∷ goodQuantity executed ∷ map (number goodPrice) (priceOf terms))
+terms-are named executed e h = h ∙ ap (λ (t : Terms). brokenBy (typeOfTerms t) (named ∷ goodQuantity executed ∷ map (number goodPrice) (priceOf t))) (sym e)
+
+pub executed-is : (id symbol firm : List ℕ) (time executed remaining execution : ℕ) (terms : Terms) {r : ℕ} {named : Bool} → r ≡ brokenBy (typeOfTerms terms) (named ∷ goodQuantity executed ∷ map (number goodPrice) (priceOf terms)) → named ≡ goodId id → r ≡ brokenOf (record { id = id; symbol = symbol; firm = firm; body = Execution time executed remaining execution terms })
+unfolding brokenOf layoutOf
+executed-is id symbol firm time executed remaining execution Published r e = tested _ _ r e
+executed-is id symbol firm time executed remaining execution (Own price) r e = tested _ _ r e
+
+-- a message of which only the type is known has no field, and so none that breaks a rule
+placed-none : (at : ℕ) (fs : List Field) → placed at fs [] ≡ []
+placed-none at [] = refl
+placed-none at (f ∷ fs) = refl
+
+none-broken : {fields : List (ℕ × Value)} → fields ≡ [] → (rows : List FieldRule) → 0 ≡ firstBroken rows (map (keeps fields) rows)
+unfolding firstAt
+none-broken none [] = refl
+none-broken {fields} none (row ∷ rows) =
+    none-broken none rows
+    ∙ ap (λ (k : Bool). firstAt k (row .0) (firstBroken rows (map (keeps fields) rows))) (sym (ap (λ (l : List (ℕ × Value)). keeps l row) none))
+
+pub other-is : (id symbol firm : List ℕ) (type : ℕ) → 0 ≡ brokenOf (record { id = id; symbol = symbol; firm = firm; body = Other type })
+unfolding brokenOf
+other-is id symbol firm type = none-broken (placed-none 3 (layoutOf type)) (rulesOf type)
+
+-- the message that fields make which were read along the layout of a type
+pub made : {t k : ℕ} (s : List ℕ) {F : Type 0} (of : F → Message) {f g : F} {m : Message} → t ≡ k → m ≡ of f → f ≡ g → of g ≡ fieldsOf k s → m ≡ fieldsOf t s
+made s of e makes reads is = makes ∙ ap of reads ∙ is ∙ ap (λ (n : ℕ). fieldsOf n s) (sym e)
 
 -- a message of a listed type that is not too short has room for its layout
 enough : (n p : ℕ) → not (eqb p 255) ≡ true → below n p ≡ false → 3 + p ≤ n
@@ -65,7 +95,24 @@ module _ (P : ℕ → Type 0) where
   by-type p9 p11 p12 p20 p21 p22 p23 p24 p25 p26 p27 others t =
       either 9 t p9 (λ n9. either 11 t p11 (λ n11. either 12 t p12 (λ n12. either 20 t p20 (λ n20. either 21 t p21 (λ n21. either 22 t p22 (λ n22. either 23 t p23 (λ n23. either 24 t p24 (λ n24. either 25 t p25 (λ n25. either 26 t p26 (λ n26. either 27 t p27 (λ n27. others t (((((((((((tt, n9), n11), n12), n20), n21), n22), n23), n24), n25), n26), n27))))))))))))
 
--- what the table has at a type
-pub needed : (sizes : List ℕ) (k : ℕ) → sizes ≡ payloadTable → k < 256 → getD sizes k 0 ≡ payloadOf k
+-- what the table has at a type; behind it none is listed
+pub needed : (sizes : List ℕ) (k : ℕ) → sizes ≡ payloadTable → k < 32 → getD sizes k 0 ≡ payloadOf k
 unfolding payloadTable
-needed sizes k e h = ap (λ (l : List ℕ). getD l k 0) e ∙ entry payloadOf 256 k h
+needed sizes k e h = ap (λ (l : List ℕ). getD l k 0) e ∙ entry payloadOf 32 k h
+
+abbrev allBelow : ℕ → List (ℕ × ℕ) → Bool
+allBelow n [] = true
+allBelow n (row ∷ rows) = ltb (row .0) n && allBelow n rows
+
+behind-row : (row : ℕ × ℕ) (rows : List (ℕ × ℕ)) (n k last : ℕ) (b : Bool) → ltb (row .0) n ≡ b → (b && allBelow n rows) ≡ true → n ≤ k → (allBelow n rows ≡ true → listedAt k rows last ≡ last)
+    → listedAt k (row ∷ rows) last ≡ last
+behind-row row rows n k last true e h far rest = simp (ne-eqb k (row .0) (λ same. omega (arith, same, ltb-true (row .0) n e))) (rest h)
+behind-row row rows n k last false e h far rest = let z : _≡_ {A = ℕ} 0 1 = cc in absurd (omega arith)
+
+behind : (rows : List (ℕ × ℕ)) (n k last : ℕ) → allBelow n rows ≡ true → n ≤ k → listedAt k rows last ≡ last
+behind [] n k last h far = refl
+behind (row ∷ rows) n k last h far = behind-row row rows n k last (ltb (row .0) n) refl h far (λ rest. behind rows n k last rest far)
+
+pub unlisted-behind : (k : ℕ) → 32 ≤ k → 255 ≡ payloadOf k
+unfolding payloadOf
+unlisted-behind k far = sym (behind payloads 32 k 255 refl far)

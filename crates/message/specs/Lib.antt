@@ -4,3 +4,4 @@ pub mod Reading
 pub mod Row
 pub mod Rules
 pub mod Table
+pub mod Whole

@@ -5,13 +5,24 @@ use mathlib.Core.List.{List, [], _∷_}
 use Prim.Native.Nat.{ℕ}
 use lib.ListN.{replicate}
 use Rattle.wire.specs.Choice.{listedAt}
-use Rattle.wire.specs.Layout.{Value, numberIs, textIs, numberIn, textIn, decode, widthOf}
+use Rattle.wire.specs.Layout.{Field, Value, numberIs, textIs, numberIn, textIn, decode, widthOf}
 use Rattle.message.specs.Layouts.{head, layoutOf}
 use Rattle.message.specs.declared.kinds.Body.{Body}
 use Rattle.message.specs.declared.kinds.Body.the-variants.{Security, SpinStart, SpinEnd, TradingSession, Add, Update, Delete, Execution, Top, Trade, Other}
 use Rattle.message.specs.declared.kinds.Message.{Message}
 use Rattle.message.specs.declared.kinds.Terms.{Terms}
 use Rattle.message.specs.declared.kinds.Terms.the-variants.{Published, Own}
+use Rattle.message.specs.declared.layouts.SecurityFields.{SecurityFields}
+use Rattle.message.specs.declared.layouts.SpinStartFields.{SpinStartFields}
+use Rattle.message.specs.declared.layouts.SpinEndFields.{SpinEndFields}
+use Rattle.message.specs.declared.layouts.TradingSessionFields.{TradingSessionFields}
+use Rattle.message.specs.declared.layouts.AddFields.{AddFields}
+use Rattle.message.specs.declared.layouts.UpdateFields.{UpdateFields}
+use Rattle.message.specs.declared.layouts.DeleteFields.{DeleteFields}
+use Rattle.message.specs.declared.layouts.ExecutionFields.{ExecutionFields}
+use Rattle.message.specs.declared.layouts.PricedFields.{PricedFields}
+use Rattle.message.specs.declared.layouts.TopFields.{TopFields}
+use Rattle.message.specs.declared.layouts.TradeFields.{TradeFields}
 
 -- an array that a kind has not is all zero
 abbrev pub noText : List ℕ
@@ -30,23 +41,121 @@ named id body = record { id = id; symbol = noText; firm = noFirm; body = body }
 abbrev pub about : List ℕ → Body → Message
 about symbol body = record { id = noText; symbol = symbol; firm = noFirm; body = body }
 
+-- ---- the fields of a type from its row, in the order of its layout
+
+abbrev pub securityIn : List Value → SecurityFields
+securityIn row =
+    let n = numberIn row in
+    let t = textIn row in
+    record { symbol = t 0; updated = n 1; action = n 2; class = n 3; security = n 4; flags = n 5; tier = n 6; reporting = n 7; status = n 8 }
+
+abbrev pub spinStartIn : List Value → SpinStartFields
+spinStartIn row =
+    let n = numberIn row in
+    record { spin = n 0; time = n 1; last = n 2 }
+
+abbrev pub spinEndIn : List Value → SpinEndFields
+spinEndIn row =
+    let n = numberIn row in
+    record { spin = n 0; count = n 1; time = n 2; last = n 3 }
+
+abbrev pub tradingSessionIn : List Value → TradingSessionFields
+tradingSessionIn row =
+    let n = numberIn row in
+    record { time = n 0; session = n 1 }
+
+abbrev pub addIn : List Value → AddFields
+addIn row =
+    let n = numberIn row in
+    let t = textIn row in
+    record { time = n 0; id = t 1; side = n 2; quantity = n 3; symbol = t 4; price = n 5; firm = t 6; unsolicited = n 7; flags = n 8 }
+
+abbrev pub updateIn : List Value → UpdateFields
+updateIn row =
+    let n = numberIn row in
+    let t = textIn row in
+    record { time = n 0; id = t 1; quantity = n 2; price = n 3; flags = n 4 }
+
+abbrev pub deleteIn : List Value → DeleteFields
+deleteIn row =
+    let n = numberIn row in
+    let t = textIn row in
+    record { time = n 0; id = t 1 }
+
+abbrev pub executionIn : List Value → ExecutionFields
+executionIn row =
+    let n = numberIn row in
+    let t = textIn row in
+    record { time = n 0; id = t 1; executed = n 2; remaining = n 3; execution = n 4 }
+
+abbrev pub pricedIn : List Value → PricedFields
+pricedIn row =
+    let n = numberIn row in
+    let t = textIn row in
+    record { time = n 0; id = t 1; executed = n 2; remaining = n 3; execution = n 4; price = n 5 }
+
+abbrev pub topIn : List Value → TopFields
+topIn row =
+    let n = numberIn row in
+    let t = textIn row in
+    record { time = n 0; symbol = t 1; ask = n 2; askvolume = n 3; bid = n 4; bidvolume = n 5; unsolicited = n 6 }
+
+abbrev pub tradeIn : List Value → TradeFields
+tradeIn row =
+    let n = numberIn row in
+    let t = textIn row in
+    record { time = n 0; side = n 1; quantity = n 2; symbol = t 3; price = n 4; execution = n 5; reserved = n 6 }
+
+-- ---- the message that has them
+
+abbrev pub ofSecurity : SecurityFields → Message
+ofSecurity f = about (f .symbol) (Security (f .updated) (f .action) (f .class) (f .security) (f .flags) (f .tier) (f .reporting) (f .status))
+
+abbrev pub ofSpinStart : SpinStartFields → Message
+ofSpinStart f = bare (SpinStart (f .spin) (f .time) (f .last))
+
+abbrev pub ofSpinEnd : SpinEndFields → Message
+ofSpinEnd f = bare (SpinEnd (f .spin) (f .count) (f .time) (f .last))
+
+abbrev pub ofTradingSession : TradingSessionFields → Message
+ofTradingSession f = bare (TradingSession (f .time) (f .session))
+
+abbrev pub ofAdd : AddFields → Message
+ofAdd f = record { id = f .id; symbol = f .symbol; firm = f .firm; body = Add (f .time) (f .side) (f .quantity) (f .price) (f .unsolicited) (f .flags) }
+
+abbrev pub ofUpdate : UpdateFields → Message
+ofUpdate f = named (f .id) (Update (f .time) (f .quantity) (f .price) (f .flags))
+
+abbrev pub ofDelete : DeleteFields → Message
+ofDelete f = named (f .id) (Delete (f .time))
+
+abbrev pub ofExecution : ExecutionFields → Message
+ofExecution f = named (f .id) (Execution (f .time) (f .executed) (f .remaining) (f .execution) Published)
+
+abbrev pub ofPriced : PricedFields → Message
+ofPriced f = named (f .id) (Execution (f .time) (f .executed) (f .remaining) (f .execution) (Own (f .price)))
+
+abbrev pub ofTop : TopFields → Message
+ofTop f = about (f .symbol) (Top (f .time) (f .ask) (f .askvolume) (f .bid) (f .bidvolume) (f .unsolicited))
+
+abbrev pub ofTrade : TradeFields → Message
+ofTrade f = about (f .symbol) (Trade (f .time) (f .side) (f .quantity) (f .price) (f .execution) (f .reserved))
+
 -- the message of a type, from its row; for 28 and unlisted types the type alone
 unfoldable pub messageOf : ℕ → List Value → Message
 messageOf type row =
-    let n = numberIn row in
-    let t = textIn row in
     listedAt type
-    ((9, about (t 0) (Security (n 1) (n 2) (n 3) (n 4) (n 5) (n 6) (n 7) (n 8)))
-    ∷ (11, bare (SpinStart (n 0) (n 1) (n 2)))
-    ∷ (12, bare (SpinEnd (n 0) (n 1) (n 2) (n 3)))
-    ∷ (20, bare (TradingSession (n 0) (n 1)))
-    ∷ (21, record { id = t 1; symbol = t 4; firm = t 6; body = Add (n 0) (n 2) (n 3) (n 5) (n 7) (n 8) })
-    ∷ (22, named (t 1) (Update (n 0) (n 2) (n 3) (n 4)))
-    ∷ (23, named (t 1) (Delete (n 0)))
-    ∷ (24, named (t 1) (Execution (n 0) (n 2) (n 3) (n 4) Published))
-    ∷ (25, named (t 1) (Execution (n 0) (n 2) (n 3) (n 4) (Own (n 5))))
-    ∷ (26, about (t 1) (Top (n 0) (n 2) (n 3) (n 4) (n 5) (n 6)))
-    ∷ (27, about (t 3) (Trade (n 0) (n 1) (n 2) (n 4) (n 5) (n 6)))
+    ((9, ofSecurity (securityIn row))
+    ∷ (11, ofSpinStart (spinStartIn row))
+    ∷ (12, ofSpinEnd (spinEndIn row))
+    ∷ (20, ofTradingSession (tradingSessionIn row))
+    ∷ (21, ofAdd (addIn row))
+    ∷ (22, ofUpdate (updateIn row))
+    ∷ (23, ofDelete (deleteIn row))
+    ∷ (24, ofExecution (executionIn row))
+    ∷ (25, ofPriced (pricedIn row))
+    ∷ (26, ofTop (topIn row))
+    ∷ (27, ofTrade (tradeIn row))
     ∷ [])
     (bare (Other type))
 
@@ -97,6 +206,10 @@ rowWith id symbol firm (Other type) = []
 abbrev pub rowOf : Message → List Value
 rowOf m = rowWith (m .id) (m .symbol) (m .firm) (m .body)
 
--- the message of a type that stands in bytes, its fields from behind the 3 header bytes on
+-- the row of a layout that stands in a message's bytes, behind the 3 header bytes
+abbrev pub rowIn : List Field → List ℕ → List Value
+rowIn layout s = decode layout (widthOf head) s
+
+-- the message of a type that stands in bytes
 unfoldable pub fieldsOf : ℕ → List ℕ → Message
-fieldsOf type s = messageOf type (decode (layoutOf type) (widthOf head) s)
+fieldsOf type s = messageOf type (rowIn (layoutOf type) s)

@@ -24,6 +24,6 @@ below n payload = not (eqb payload 255) && ltb n (3 + payload)
 abbrev pub tooShort : ℕ → ℕ → Bool
 tooShort type n = below n (payloadOf type)
 
--- the payload of each of the 256 types
+-- the payload of each type below 32: all that are listed are among them
 unfoldable pub payloadTable : List ℕ
-payloadTable = tabulate payloadOf 256
+payloadTable = tabulate payloadOf 32

@@ -30,10 +30,10 @@ pub fn read(s: &[u8]) -> Reading
     ensures { λ r. ⌜ r ≡ readOf (now (s .entry)) ⌝ }
 {
     let n = s.len();
-    if n < 3 {
+    if n < table::HEADER {
         return refusal(7);
     }
-    if 128 < n {
+    if table::LONGEST < n {
         return refusal(7);
     }
     let size = wire::u16_at(s, 0);

@@ -5,9 +5,10 @@
 // then 11, and every other byte stays (specs/Writing.antt). The payloads, the layouts and the field
 // rules stand in specs/, one file each, and reading and writing go along the same layouts: what is
 // written reads back, and what was read is written back to its own bytes (proofs/Trips.antt).
-// `parts` has what other crates share.
+// `layouts`, `parts`, `rules` and `table` have what other crates share.
 mod answer;
 mod kinds;
+pub mod layouts;
 pub mod parts;
 pub mod rules;
 pub mod table;
@@ -18,3 +19,5 @@ pub use answer::read;
 pub use kinds::Body;
 pub use kinds::Message;
 pub use kinds::Terms;
+pub use table::HEADER;
+pub use table::LONGEST;

@@ -1,17 +1,29 @@
-// Parts: the fields of a message whose bytes are known to be there. No host needs them.
+// Parts: the message that its fields make, and the message of a type that stands in bytes. No host
+// needs them.
 ghost use mathlib.Core.Bool.{false};
 ghost use mathlib.Core.Path.{_≡_};
-ghost use Prim.Native.Nat.{_≤_};
 ghost use lib.ListN.{length};
-ghost use Rattle.message.specs.Row.{bare, fieldsOf, named, about};
+ghost use Rattle.message.specs.Row.{bare as bareOf, named as namedOf, about as aboutOf, fieldsOf, ofSecurity, ofSpinStart, ofSpinEnd, ofTradingSession, ofAdd, ofUpdate, ofDelete, ofExecution, ofPriced, ofTop, ofTrade};
 ghost use Rattle.message.specs.Table.{tooShort};
 use crate::kinds::Body;
 use crate::kinds::Message;
 use crate::kinds::Terms;
+use crate::layouts;
+use crate::layouts::AddFields;
+use crate::layouts::DeleteFields;
+use crate::layouts::ExecutionFields;
+use crate::layouts::PricedFields;
+use crate::layouts::SecurityFields;
+use crate::layouts::SpinEndFields;
+use crate::layouts::SpinStartFields;
+use crate::layouts::TopFields;
+use crate::layouts::TradeFields;
+use crate::layouts::TradingSessionFields;
+use crate::layouts::UpdateFields;
 
 // A message of numbers alone.
-fn numbers(body: Body) -> Message
-    ensures { λ r. ⌜ r ≡ bare body ⌝ }
+fn bare(body: Body) -> Message
+    ensures { λ r. ⌜ r ≡ bareOf body ⌝ }
 {
     let id = [0u8; 14];
     let symbol = [0u8; 14];
@@ -25,8 +37,8 @@ fn numbers(body: Body) -> Message
 }
 
 // A message that names an order.
-fn of_order(id: [u8; 14], body: Body) -> Message
-    ensures { λ r. ⌜ r ≡ named id body ⌝ }
+fn named(id: [u8; 14], body: Body) -> Message
+    ensures { λ r. ⌜ r ≡ namedOf id body ⌝ }
 {
     let symbol = [0u8; 14];
     let firm = [0u8; 4];
@@ -39,8 +51,8 @@ fn of_order(id: [u8; 14], body: Body) -> Message
 }
 
 // A message that names a share.
-fn of_share(symbol: [u8; 14], body: Body) -> Message
-    ensures { λ r. ⌜ r ≡ about symbol body ⌝ }
+fn about(symbol: [u8; 14], body: Body) -> Message
+    ensures { λ r. ⌜ r ≡ aboutOf symbol body ⌝ }
 {
     let id = [0u8; 14];
     let firm = [0u8; 4];
@@ -54,95 +66,75 @@ fn of_share(symbol: [u8; 14], body: Body) -> Message
 
 // A message of which only the type is known.
 pub fn plain(kind: u8) -> Message
-    ensures { λ r. ⌜ r ≡ bare (Body.Other kind) ⌝ }
+    ensures { λ r. ⌜ r ≡ bareOf (Body.Other kind) ⌝ }
 {
-    numbers(Body::Other(kind))
+    bare(Body::Other(kind))
 }
 
-fn security(s: &[u8]) -> Message
-    requires { ⌜ 36 ≤ length (now s) ⌝ }
-    ensures { λ r. ⌜ r ≡ fieldsOf 9 (now (s .entry)) ⌝ }
+fn of_security(fields: SecurityFields) -> Message
+    ensures { λ r. ⌜ r ≡ ofSecurity fields ⌝ }
 {
-    let symbol = wire::text14_at(s, 3);
-    let updated = wire::u64_at(s, 17);
-    let action = wire::u8_at(s, 25);
-    let class = wire::u8_at(s, 26);
-    let security = wire::u32_at(s, 27);
-    let flags = wire::u16_at(s, 31);
-    let tier = wire::u8_at(s, 33);
-    let reporting = wire::u8_at(s, 34);
-    let status = wire::u8_at(s, 35);
-    of_share(
-        symbol,
-        Body::Security {
-            updated,
-            action,
-            class,
-            security,
-            flags,
-            tier,
-            reporting,
-            status,
-        },
-    )
-}
-
-fn spin_start(s: &[u8]) -> Message
-    requires { ⌜ 16 ≤ length (now s) ⌝ }
-    ensures { λ r. ⌜ r ≡ fieldsOf 11 (now (s .entry)) ⌝ }
-{
-    let spin = wire::u8_at(s, 3);
-    let time = wire::u64_at(s, 4);
-    let last = wire::u32_at(s, 12);
-    numbers(Body::SpinStart { spin, time, last })
-}
-
-fn spin_end(s: &[u8]) -> Message
-    requires { ⌜ 20 ≤ length (now s) ⌝ }
-    ensures { λ r. ⌜ r ≡ fieldsOf 12 (now (s .entry)) ⌝ }
-{
-    let spin = wire::u8_at(s, 3);
-    let count = wire::u32_at(s, 4);
-    let time = wire::u64_at(s, 8);
-    let last = wire::u32_at(s, 16);
-    numbers(Body::SpinEnd {
-        spin,
-        count,
-        time,
-        last,
-    })
-}
-
-fn trading_session(s: &[u8]) -> Message
-    requires { ⌜ 12 ≤ length (now s) ⌝ }
-    ensures { λ r. ⌜ r ≡ fieldsOf 20 (now (s .entry)) ⌝ }
-{
-    let time = wire::u64_at(s, 3);
-    let session = wire::u8_at(s, 11);
-    numbers(Body::TradingSession { time, session })
-}
-
-fn add(s: &[u8]) -> Message
-    requires { ⌜ 55 ≤ length (now s) ⌝ }
-    ensures { λ r. ⌜ r ≡ fieldsOf 21 (now (s .entry)) ⌝ }
-{
-    let time = wire::u32_at(s, 3);
-    let id = wire::text14_at(s, 7);
-    let side = wire::u8_at(s, 21);
-    let quantity = wire::u32_at(s, 22);
-    let symbol = wire::text14_at(s, 26);
-    let price = wire::u64_at(s, 40);
-    let firm = wire::text4_at(s, 48);
-    let unsolicited = wire::u8_at(s, 52);
-    let flags = wire::u16_at(s, 53);
-    let body = Body::Add {
-        time,
-        side,
-        quantity,
-        price,
-        unsolicited,
-        flags,
+    let body = Body::Security {
+        updated: fields.updated,
+        action: fields.action,
+        class: fields.class,
+        security: fields.security,
+        flags: fields.flags,
+        tier: fields.tier,
+        reporting: fields.reporting,
+        status: fields.status,
     };
+    let symbol = fields.symbol;
+    about(symbol, body)
+}
+
+fn of_spin_start(fields: SpinStartFields) -> Message
+    ensures { λ r. ⌜ r ≡ ofSpinStart fields ⌝ }
+{
+    let body = Body::SpinStart {
+        spin: fields.spin,
+        time: fields.time,
+        last: fields.last,
+    };
+    bare(body)
+}
+
+fn of_spin_end(fields: SpinEndFields) -> Message
+    ensures { λ r. ⌜ r ≡ ofSpinEnd fields ⌝ }
+{
+    let body = Body::SpinEnd {
+        spin: fields.spin,
+        count: fields.count,
+        time: fields.time,
+        last: fields.last,
+    };
+    bare(body)
+}
+
+fn of_trading_session(fields: TradingSessionFields) -> Message
+    ensures { λ r. ⌜ r ≡ ofTradingSession fields ⌝ }
+{
+    let body = Body::TradingSession {
+        time: fields.time,
+        session: fields.session,
+    };
+    bare(body)
+}
+
+fn of_add(fields: AddFields) -> Message
+    ensures { λ r. ⌜ r ≡ ofAdd fields ⌝ }
+{
+    let body = Body::Add {
+        time: fields.time,
+        side: fields.side,
+        quantity: fields.quantity,
+        price: fields.price,
+        unsolicited: fields.unsolicited,
+        flags: fields.flags,
+    };
+    let id = fields.id;
+    let symbol = fields.symbol;
+    let firm = fields.firm;
     Message {
         id,
         symbol,
@@ -151,145 +143,104 @@ fn add(s: &[u8]) -> Message
     }
 }
 
-fn update(s: &[u8]) -> Message
-    requires { ⌜ 35 ≤ length (now s) ⌝ }
-    ensures { λ r. ⌜ r ≡ fieldsOf 22 (now (s .entry)) ⌝ }
+fn of_update(fields: UpdateFields) -> Message
+    ensures { λ r. ⌜ r ≡ ofUpdate fields ⌝ }
 {
-    let time = wire::u32_at(s, 3);
-    let id = wire::text14_at(s, 7);
-    let quantity = wire::u32_at(s, 21);
-    let price = wire::u64_at(s, 25);
-    let flags = wire::u16_at(s, 33);
-    of_order(
-        id,
-        Body::Update {
-            time,
-            quantity,
-            price,
-            flags,
-        },
-    )
+    let body = Body::Update {
+        time: fields.time,
+        quantity: fields.quantity,
+        price: fields.price,
+        flags: fields.flags,
+    };
+    let id = fields.id;
+    named(id, body)
 }
 
-fn delete(s: &[u8]) -> Message
-    requires { ⌜ 21 ≤ length (now s) ⌝ }
-    ensures { λ r. ⌜ r ≡ fieldsOf 23 (now (s .entry)) ⌝ }
+fn of_delete(fields: DeleteFields) -> Message
+    ensures { λ r. ⌜ r ≡ ofDelete fields ⌝ }
 {
-    let time = wire::u32_at(s, 3);
-    let id = wire::text14_at(s, 7);
-    of_order(id, Body::Delete { time })
+    let body = Body::Delete { time: fields.time };
+    let id = fields.id;
+    named(id, body)
 }
 
-fn execution(s: &[u8]) -> Message
-    requires { ⌜ 37 ≤ length (now s) ⌝ }
-    ensures { λ r. ⌜ r ≡ fieldsOf 24 (now (s .entry)) ⌝ }
+fn of_execution(fields: ExecutionFields) -> Message
+    ensures { λ r. ⌜ r ≡ ofExecution fields ⌝ }
 {
-    let time = wire::u32_at(s, 3);
-    let id = wire::text14_at(s, 7);
-    let executed = wire::u32_at(s, 21);
-    let remaining = wire::u32_at(s, 25);
-    let execution = wire::u64_at(s, 29);
     let terms = Terms::Published;
-    of_order(
-        id,
-        Body::Execution {
-            time,
-            executed,
-            remaining,
-            execution,
-            terms,
-        },
-    )
+    let body = Body::Execution {
+        time: fields.time,
+        executed: fields.executed,
+        remaining: fields.remaining,
+        execution: fields.execution,
+        terms,
+    };
+    let id = fields.id;
+    named(id, body)
 }
 
-fn priced(s: &[u8]) -> Message
-    requires { ⌜ 45 ≤ length (now s) ⌝ }
-    ensures { λ r. ⌜ r ≡ fieldsOf 25 (now (s .entry)) ⌝ }
+fn of_priced(fields: PricedFields) -> Message
+    ensures { λ r. ⌜ r ≡ ofPriced fields ⌝ }
 {
-    let time = wire::u32_at(s, 3);
-    let id = wire::text14_at(s, 7);
-    let executed = wire::u32_at(s, 21);
-    let remaining = wire::u32_at(s, 25);
-    let execution = wire::u64_at(s, 29);
-    let price = wire::u64_at(s, 37);
-    let terms = Terms::Own(price);
-    of_order(
-        id,
-        Body::Execution {
-            time,
-            executed,
-            remaining,
-            execution,
-            terms,
-        },
-    )
+    let terms = Terms::Own(fields.price);
+    let body = Body::Execution {
+        time: fields.time,
+        executed: fields.executed,
+        remaining: fields.remaining,
+        execution: fields.execution,
+        terms,
+    };
+    let id = fields.id;
+    named(id, body)
 }
 
-fn top(s: &[u8]) -> Message
-    requires { ⌜ 46 ≤ length (now s) ⌝ }
-    ensures { λ r. ⌜ r ≡ fieldsOf 26 (now (s .entry)) ⌝ }
+fn of_top(fields: TopFields) -> Message
+    ensures { λ r. ⌜ r ≡ ofTop fields ⌝ }
 {
-    let time = wire::u32_at(s, 3);
-    let symbol = wire::text14_at(s, 7);
-    let ask = wire::u64_at(s, 21);
-    let askvolume = wire::u32_at(s, 29);
-    let bid = wire::u64_at(s, 33);
-    let bidvolume = wire::u32_at(s, 41);
-    let unsolicited = wire::u8_at(s, 45);
-    of_share(
-        symbol,
-        Body::Top {
-            time,
-            ask,
-            askvolume,
-            bid,
-            bidvolume,
-            unsolicited,
-        },
-    )
+    let body = Body::Top {
+        time: fields.time,
+        ask: fields.ask,
+        askvolume: fields.askvolume,
+        bid: fields.bid,
+        bidvolume: fields.bidvolume,
+        unsolicited: fields.unsolicited,
+    };
+    let symbol = fields.symbol;
+    about(symbol, body)
 }
 
-fn trade(s: &[u8]) -> Message
-    requires { ⌜ 50 ≤ length (now s) ⌝ }
-    ensures { λ r. ⌜ r ≡ fieldsOf 27 (now (s .entry)) ⌝ }
+fn of_trade(fields: TradeFields) -> Message
+    ensures { λ r. ⌜ r ≡ ofTrade fields ⌝ }
 {
-    let time = wire::u32_at(s, 3);
-    let side = wire::u8_at(s, 7);
-    let quantity = wire::u32_at(s, 8);
-    let symbol = wire::text14_at(s, 12);
-    let price = wire::u64_at(s, 26);
-    let execution = wire::u64_at(s, 34);
-    let reserved = wire::u64_at(s, 42);
-    of_share(
-        symbol,
-        Body::Trade {
-            time,
-            side,
-            quantity,
-            price,
-            execution,
-            reserved,
-        },
-    )
+    let body = Body::Trade {
+        time: fields.time,
+        side: fields.side,
+        quantity: fields.quantity,
+        price: fields.price,
+        execution: fields.execution,
+        reserved: fields.reserved,
+    };
+    let symbol = fields.symbol;
+    about(symbol, body)
 }
 
-// The fields of a message by its type; the type alone where it is not opened.
+// The message of a type that stands in bytes; the type alone where it is not opened.
 pub fn fields(s: &[u8], kind: u8) -> Message
     requires { ⌜ tooShort kind (length (now s)) ≡ false ⌝ }
     ensures { λ r. ⌜ r ≡ fieldsOf kind (now (s .entry)) ⌝ }
 {
     match kind {
-        9 => security(s),
-        11 => spin_start(s),
-        12 => spin_end(s),
-        20 => trading_session(s),
-        21 => add(s),
-        22 => update(s),
-        23 => delete(s),
-        24 => execution(s),
-        25 => priced(s),
-        26 => top(s),
-        27 => trade(s),
+        9 => of_security(layouts::security(s)),
+        11 => of_spin_start(layouts::spin_start(s)),
+        12 => of_spin_end(layouts::spin_end(s)),
+        20 => of_trading_session(layouts::trading_session(s)),
+        21 => of_add(layouts::add(s)),
+        22 => of_update(layouts::update(s)),
+        23 => of_delete(layouts::delete(s)),
+        24 => of_execution(layouts::execution(s)),
+        25 => of_priced(layouts::priced(s)),
+        26 => of_top(layouts::top(s)),
+        27 => of_trade(layouts::trade(s)),
         _ => plain(kind),
     }
 }

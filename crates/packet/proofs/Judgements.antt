@@ -35,13 +35,13 @@ abbrev pub numbered : List Test → Bool
 numbered [] = true
 numbered (x ∷ xs) = not (eqb (x .1 .0) 0) && numbered xs
 
-both-left : (a b : Bool) → (a && b) ≡ true → a ≡ true
-both-left true b h = refl
-both-left false b h = h
+pub and-left : (a b : Bool) → (a && b) ≡ true → a ≡ true
+and-left true b h = refl
+and-left false b h = h
 
-both-right : (a b : Bool) → (a && b) ≡ true → b ≡ true
-both-right true b h = h
-both-right false b h = absurd (true≢false (sym h))
+pub and-right : (a b : Bool) → (a && b) ≡ true → b ≡ true
+and-right true b h = h
+and-right false b h = absurd (true≢false (sym h))
 
 pass-step : (b : Bool) (a rest e d : ℕ × ℕ) → not (eqb (a .0) 0) ≡ true → (cond b a rest) .0 ≡ 0 → (rest .0 ≡ 0 → e ≡ d) → cond b a e ≡ d
 pass-step true a rest e d n h ih =
@@ -53,8 +53,8 @@ pub passes : (xs : List Test) (d : ℕ × ℕ) → numbered xs ≡ true → deci
 passes [] d n h = refl
 passes (x ∷ xs) d n h =
     let first = not (eqb (x .1 .0) 0) in
-    pass-step (x .0) (x .1) (decided xs) (firstOf xs d) d (both-left first (numbered xs) n) h
-    (passes xs d (both-right first (numbered xs) n))
+    pass-step (x .0) (x .1) (decided xs) (firstOf xs d) d (and-left first (numbered xs) n) h
+    (passes xs d (and-right first (numbered xs) n))
 
 pub header-numbered : (s : List ℕ) → numbered (headerTests s) ≡ true
 unfolding headerTests flagTests

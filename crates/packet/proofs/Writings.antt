@@ -13,8 +13,8 @@ use Rattle.wire.specs.Number.{Bytes, part, splice}
 use Rattle.wire.proofs.Choice.{passed}
 use Rattle.wire.proofs.Layouts.{decode-encode, encode-decode}
 use Rattle.wire.proofs.Place.{length-splice, splice-part}
-use Rattle.writing.specs.declared.place.Written.{Written}
-use Rattle.writing.specs.declared.place.Written.the-variants.{Count, Refused}
+use Rattle.wire.specs.declared.write.Written.{Written}
+use Rattle.wire.specs.declared.write.Written.the-variants.{Count, Refused}
 use Rattle.packet.specs.Header.{answered, decided, flagsOf, headerFrom, headerIn, headerOf, headerTests, judged, layout}
 use Rattle.packet.specs.Writing.{answerOf, bufferAfter, headerBytes, rowOf, tests}
 use Rattle.packet.specs.declared.header.Header.{Header}

@@ -7,8 +7,8 @@ use lib.Dec.{eqb, ltb}
 use lib.ListN.{length}
 use Rattle.wire.specs.Choice.{firstOf}
 use Rattle.wire.specs.Layout.{Value, numberIs, encode, putRow}
-use Rattle.writing.specs.declared.place.Written.{Written}
-use Rattle.writing.specs.declared.place.Written.the-variants.{Count, Refused}
+use Rattle.wire.specs.declared.write.Written.{Written}
+use Rattle.wire.specs.declared.write.Written.the-variants.{Count, Refused}
 use Rattle.packet.specs.Header.{decided, flagsOf, layout}
 use Rattle.packet.specs.declared.header.Header.{Header}
 

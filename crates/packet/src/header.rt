@@ -4,6 +4,16 @@ ghost use Prim.Native.Nat.{_≤_};
 ghost use lib.ListN.{length};
 ghost use Rattle.packet.specs.Header.{decided, flagTests, headerIn, headerOf, headerTests, judged};
 
+// A packet's header, which is the shortest packet, and the longest packet, in bytes.
+pub const HEADER: usize = 12;
+
+pub const LONGEST: usize = 1472;
+
+// The same as PacketSize has them.
+pub const BARE: u16 = HEADER as u16;
+
+pub const FULL: u16 = LONGEST as u16;
+
 pub struct Header {
     pub size: u16,
     pub seq: u32,
@@ -24,7 +34,7 @@ pub struct Judged {
 }
 
 // A part.
-pub fn by(test: u8, offset: usize) -> Judged
+pub fn verdict(test: u8, offset: usize) -> Judged
     ensures { λ r. ⌜ r ≡ judged (test, offset) ⌝ }
 {
     Judged { test, offset }
@@ -54,21 +64,21 @@ pub fn flagged(size: u16, flag: u8, messages: u8) -> Judged
     ensures { λ r. ⌜ r ≡ judged (decided (flagTests size flag messages)) ⌝ }
 {
     if flag / 2 != 0 {
-        return by(4, 6);
+        return verdict(4, 6);
     }
     if flag % 2 == 1 {
-        if size != 12 {
-            return by(5, 0);
+        if size != BARE {
+            return verdict(5, 0);
         }
         if messages != 0 {
-            return by(5, 7);
+            return verdict(5, 7);
         }
-        return by(0, 0);
+        return verdict(0, 0);
     }
     if messages == 0 {
-        return by(6, 7);
+        return verdict(6, 7);
     }
-    by(0, 0)
+    verdict(0, 0)
 }
 
 // A part: the first of 1 to 6 that applies.
@@ -76,15 +86,15 @@ pub fn tested(s: &[u8]) -> Judged
     ensures { λ r. ⌜ r ≡ judged (decided (headerTests (now (s .entry)))) ⌝ }
 {
     let n = s.len();
-    if n < 12 {
-        return by(1, 0);
+    if n < HEADER {
+        return verdict(1, 0);
     }
-    if 1472 < n {
-        return by(2, 0);
+    if LONGEST < n {
+        return verdict(2, 0);
     }
     let header = fields(s);
     if header.size as usize != n {
-        return by(3, 0);
+        return verdict(3, 0);
     }
     flagged(header.size, header.flag, header.messages)
 }

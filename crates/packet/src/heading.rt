@@ -1,7 +1,10 @@
 // Writing a header into a buffer's first 12 bytes.
+use crate::header::BARE;
+use crate::header::FULL;
+use crate::header::HEADER;
 use crate::header::Header;
 use crate::header::flagged;
-use writing::Written;
+use wire::Written;
 ghost use mathlib.Core.Path.{_≡_};
 ghost use Prim.Native.Nat.{_≤_};
 ghost use lib.ListN.{length};
@@ -14,20 +17,20 @@ fn answer(header: Header, n: usize) -> Written
     ensures { λ r. ⌜ r ≡ answerOf header n ⌝ }
 {
     let size = header.size;
-    if size < 12 {
+    if size < BARE {
         return Written::Refused(14);
     }
-    if 1472 < size {
+    if FULL < size {
         return Written::Refused(14);
     }
     let judged = flagged(size, header.flag, header.messages);
     if judged.test != 0 {
         return Written::Refused(14);
     }
-    if n < 12 {
+    if n < HEADER {
         return Written::Refused(11);
     }
-    Written::Count(12)
+    Written::Count(HEADER)
 }
 
 fn put(header: Header, buf: &mut [u8])

@@ -4,7 +4,6 @@ use crate::header::Judged;
 use crate::walk;
 use crate::walk::Walked;
 ghost use mathlib.Core.Path.{_≡_};
-ghost use Rattle.message.specs.Table.{payloadTable};
 ghost use Rattle.packet.specs.Header.{decided, judged};
 ghost use Rattle.packet.specs.Judging.{bodyTests, judgeOf};
 
@@ -13,19 +12,18 @@ fn body(walked: Walked, seq: u32, messages: u8) -> Judged
     ensures { λ r. ⌜ r ≡ judged (decided (bodyTests walked seq messages)) ⌝ }
 {
     match walked {
-        Walked::Broken(at) => header::by(7, at),
+        Walked::Broken(at) => header::verdict(7, at),
         Walked::Whole => {
             if 4294967296 < (seq as u64) + (messages as u64) {
-                return header::by(8, 2);
+                return header::verdict(8, 2);
             }
-            header::by(0, 0)
+            header::verdict(0, 0)
         }
     }
 }
 
-// A part: with the payload table lent.
-pub fn judge_with(s: &[u8], sizes: &[u8; 256]) -> Judged
-    requires { ⌜ now sizes ≡ payloadTable ⌝ }
+// The call: which of 1 to 8 decides, 0 where none applies, and the byte offset that it rests on.
+pub fn judge(s: &[u8]) -> Judged
     ensures { λ r. ⌜ r ≡ judgeOf (now (s .entry)) ⌝ }
 {
     let answer = header::tested(s);
@@ -36,14 +34,6 @@ pub fn judge_with(s: &[u8], sizes: &[u8; 256]) -> Judged
     if head.flag % 2 == 1 {
         return answer;
     }
-    let walked = walk::walk(s, sizes, head.messages);
+    let walked = walk::walk(s, head.messages);
     body(walked, head.seq, head.messages)
-}
-
-// The call: which of 1 to 8 decides, 0 where none applies, and the byte offset that it rests on.
-pub fn judge(s: &[u8]) -> Judged
-    ensures { λ r. ⌜ r ≡ judgeOf (now (s .entry)) ⌝ }
-{
-    let sizes = message::table::sizes();
-    judge_with(s, &sizes)
 }

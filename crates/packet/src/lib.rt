@@ -9,8 +9,10 @@ mod heading;
 pub mod judge;
 pub mod walk;
 
+pub use header::HEADER;
 pub use header::Header;
 pub use header::HeaderAnswer;
 pub use header::Judged;
+pub use header::LONGEST;
 pub use header::read_header;
 pub use heading::write_header;

@@ -1,4 +1,6 @@
 // Parts: the walk over a packet's messages. It steps by MessageSize.
+use crate::header::HEADER;
+use message::table::Payloads;
 ghost use mathlib.Core.Path.{_≡_};
 ghost use Prim.Native.Nat.{_≤_};
 ghost use lib.ListN.{length};
@@ -10,21 +12,21 @@ pub enum Walked {
     Broken(usize),
 }
 
-// The size of the message at a place, or 0 where it is at fault.
-pub fn step(s: &[u8], sizes: &[u8; 256], at: usize) -> usize
+// The size of the message at a place, or 0 where it is at fault, by the payload table.
+fn step_by(s: &[u8], sizes: &Payloads, at: usize) -> usize
     requires { ⌜ at ≤ length (now s) ⌝ }
     requires { ⌜ now sizes ≡ payloadTable ⌝ }
     ensures { λ r. ⌜ r ≡ stepAt (now (s .entry)) at ⌝ }
 {
     let left = s.len() - at;
-    if left < 3 {
+    if left < message::HEADER {
         return 0;
     }
     let size = wire::u16_at(s, at) as usize;
-    if size < 3 {
+    if size < message::HEADER {
         return 0;
     }
-    if 128 < size {
+    if message::LONGEST < size {
         return 0;
     }
     if left < size {
@@ -36,16 +38,25 @@ pub fn step(s: &[u8], sizes: &[u8; 256], at: usize) -> usize
     size
 }
 
+// The same for one message by itself.
+pub fn step(s: &[u8], at: usize) -> usize
+    requires { ⌜ at ≤ length (now s) ⌝ }
+    ensures { λ r. ⌜ r ≡ stepAt (now (s .entry)) at ⌝ }
+{
+    let sizes = message::table::sizes();
+    step_by(s, &sizes, at)
+}
+
 // Where the messages of a packet are at fault, if they are.
-pub fn walk(s: &[u8], sizes: &[u8; 256], messages: u8) -> Walked
+pub fn walk(s: &[u8], messages: u8) -> Walked
     requires { ⌜ 12 ≤ length (now s) ⌝ }
-    requires { ⌜ now sizes ≡ payloadTable ⌝ }
     ensures { λ r. ⌜ r ≡ walkFrom messages 12 (now (s .entry)) ⌝ }
 {
-    let mut at: usize = 12;
+    let sizes = message::table::sizes();
+    let mut at = HEADER;
     let mut left = messages;
     while 0 < left {
-        let size = step(s, sizes, at);
+        let size = step_by(s, &sizes, at);
         if size == 0 {
             return Walked::Broken(at);
         }

@@ -12,8 +12,8 @@ use Rattle.packet.specs.declared.header.HeaderAnswer.the-variants as header
 use Rattle.message.specs.declared.answer.Reading.{Reading}
 use Rattle.message.specs.declared.answer.Verdict.{Verdict}
 use Rattle.message.specs.declared.answer.Verdict.the-variants as reading
-use Rattle.writing.specs.Writing.{bufferAfter, writeOf}
-use Rattle.writing.specs.declared.place.Written.{Written}
+use Rattle.message_write.specs.Writing.{bufferAfter, writeOf}
+use Rattle.wire.specs.declared.write.Written.{Written}
 use Rattle.replay.specs.Single.{backBuffer, backCount, backRefusals, bufferBy, countBy, headerNumbers, headerRefusal, idRefusal, refusalsBy, valueBy, writtenCount, writtenRefusal}
 
 module _ {a b : IdValue} {n : ℕ} (told : a ≡ b) (old : ℕ) where

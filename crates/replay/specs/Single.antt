@@ -17,9 +17,9 @@ use Rattle.message.specs.declared.kinds.Message.{Message}
 use Rattle.packet.specs.declared.header.Header.{Header}
 use Rattle.packet.specs.declared.header.HeaderAnswer.{HeaderAnswer}
 use Rattle.packet.specs.declared.header.HeaderAnswer.the-variants as header
-use Rattle.writing.specs.Writing.{bufferAfter, writeOf}
-use Rattle.writing.specs.declared.place.Written.{Written}
-use Rattle.writing.specs.declared.place.Written.the-variants as written
+use Rattle.message_write.specs.Writing.{bufferAfter, writeOf}
+use Rattle.wire.specs.declared.write.Written.{Written}
+use Rattle.wire.specs.declared.write.Written.the-variants as written
 
 -- bytes of another length than 14 are no id
 unfoldable pub idIn : List ℕ → IdValue

@@ -10,7 +10,7 @@ use session::asking::inside;
 use session::asking::order;
 use session::asking::requests;
 use session::state::Session;
-use waiting::asking::Asked;
+use window::asking::Asked;
 
 // A reply: the refusal, 0 where there is none, and the digest of what was told.
 struct Told {

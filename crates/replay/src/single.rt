@@ -8,9 +8,9 @@ ghost use Rattle.replay.specs.Single.{backBuffer, backCount, backRefusal
 use fields::id;
 use fields::id::IdValue;
 use message::Verdict;
+use message_write::Written;
 use packet::Header;
 use packet::HeaderAnswer;
-use writing::Written;
 
 fn id_in(text: &[u8]) -> IdValue
     ensures { λ r. ⌜ r ≡ idIn (now (text .entry)) ⌝ }
@@ -119,7 +119,7 @@ pub extern "C" fn replay_message(
         }
         Verdict::Accepted => {
             let message = reading.message;
-            let answer = writing::write(message, buf, at);
+            let answer = message_write::write(message, buf, at);
             refusals[0] = 0;
             refusals[1] = refusal(answer);
             count(answer)

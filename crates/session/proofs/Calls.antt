@@ -2,39 +2,39 @@
 -- Assumes nothing.
 use mathlib.Core.Path.{_≡_, refl, ap, ap₂, _∙_, sym, subst}
 use mathlib.Core.Bool.{Bool, true, false, cond, not, _&&_}
-use mathlib.Core.List.{List, [], _∷_, _++_, append-nil, map}
-use mathlib.Core.Option.{Option, none, some}
+use mathlib.Core.List.{List, [], _∷_, _++_, map}
+use mathlib.Core.Option.{none, some}
 use Prim.Native.Nat.{ℕ, zero, suc, _+_, _-_, _*_, _/_, _%_, _≤_, _<_, min, max}
 use native.Mathlib.Omega.{arith}
 use borrow.Author.Tests.{eq-eqb, le-leb, le-ltb, leb-false, leb-true, lt-leb, lt-ltb, ne-eqb}
 use lib.Dec.{eqb, leb, ltb}
-use lib.ListN.{length, getD, replicate, take, length-append, length-map, length-replicate}
+use lib.ListN.{length, getD, replicate, take, length-map}
 use Rattle.wire.specs.Number.{Bytes, part, splice}
 use Rattle.wire.proofs.Place.{part-all, part-bytes, splice-none}
-use Rattle.merge.specs.Session.{opened, takeAll, takeOne}
+use Rattle.merge.specs.State.{opened, takeAll, takeOne}
 use Rattle.merge.proofs.Window.{next-end}
 use Rattle.packet.specs.Header as header
 use Rattle.packet.specs.Header.{Test, decided, flagTests, headerIn, headerTests}
 use Rattle.packet.specs.Judging.{bodyTests, packetTests, unlessHeartbeat}
 use Rattle.packet.specs.Walk.{walkFrom}
-use Rattle.waiting.specs.Runs as runs
-use Rattle.waiting.specs.Runs.{IsRun, closed, firstFrom, limitOf, missingIn, runFrom, runsFrom}
-use Rattle.waiting.specs.Window.{placeOf, placesFrom, sizeAt, startOf, waitsAt, windowOf, zeros}
-use Rattle.waiting.specs.declared.missing.Gap.{Gap}
-use Rattle.waiting.proofs.Firsts.{Between, first-between}
+use Rattle.window.specs.Runs as runs
+use Rattle.window.specs.Runs.{IsRun, closed, firstFrom, limitOf, missingIn, runFrom, runsFrom}
+use Rattle.window.specs.Window.{placeOf, placesFrom, sizeAt, startOf, waitsAt, windowOf, zeros}
+use Rattle.window.specs.declared.missing.Gap.{Gap}
+use Rattle.window.proofs.Firsts.{Between, first-between}
 use Rattle.book.specs.Rule.{Kept}
 use Rattle.book.specs.Tables as book
 use Rattle.book.specs.Tables.{fresh, noInside, noOrder, places}
 use Rattle.book.specs.declared.tables.Order.{Order}
 use Rattle.book.specs.declared.tables.Inside.{Inside}
-use Rattle.taking.specs.Keeping.{waitingOf, windowFor}
-use Rattle.taking.specs.Taking.{bytesAt, takeTests, waitTests}
-use Rattle.taking.specs.Turns.{lengthAt}
-use Rattle.taking.proofs.Windows.{waits-place}
-use Rattle.session.specs.Meaning.{AllBytes, Ruled, State, bookIn, feed, overnight, rep, sessionOf, view}
-use Rattle.index.proofs.Laws.{index-empty}
+use Rattle.window_taking.specs.Keeping.{waitingOf, windowFor}
+use Rattle.window_taking.specs.Taking.{bytesAt, takeTests, waitTests}
+use Rattle.window_taking.specs.Turns.{burstFrom, framesOf, packetsIn, packetsOf}
+use Rattle.window_taking.proofs.Windows.{waits-place}
+use Rattle.session.specs.Meaning.{AllBytes, Ruled, Meaning, bookIn, feed, overnight, rep, sessionOf, view}
+use Rattle.book_index.proofs.Laws.{index-empty}
 use Rattle.session.specs.Asking.{gapFrom, gapsOf, lacks, limit, missing, placed}
-use Rattle.session.specs.Bursts.{answerOf, answered, answersAfter, appliedOf, burstFrom, burstOf, countIf, framesOf, packetsIn, packetsOf, refusalOf, rowOf, rowsOf, takenOf}
+use Rattle.session.specs.Bursts.{answerOf, answered, answersAfter, burstOf, countIf, refusalOf, rowOf, rowsOf, takenOf}
 use Rattle.session.specs.Bursts.{Runs}
 use Rattle.session.specs.declared.packets.Answer.{Answer}
 use Rattle.session.specs.declared.packets.Answer.the-variants.{Applied, Refused}
@@ -43,7 +43,7 @@ use Rattle.session.specs.declared.packets.Count.the-variants as count
 use Rattle.session.specs.declared.packets.Taken.{Taken}
 use Rattle.session.specs.declared.packets.TakenAll.{TakenAll}
 use Rattle.session.specs.declared.state.Session.{Session}
-use Rattle.session.proofs.States.{Good, Stands, kept, meaning, ruled-more, ruled-one, ruled-open, stands}
+use Rattle.session.proofs.States.{kept, ruled-more, stands}
 
 -- ---- an opening
 
@@ -64,49 +64,58 @@ opens-fresh n = λ i. sessionOf (book.rep fresh) (sym index-empty i) (sym index-
 
 pub opened-with : (n : ℕ) {order : Order} {inside : Inside} → order ≡ noOrder → inside ≡ noInside
     → _≡_ {A = Session}
-    (record { orders = replicate 256 order; keys = replicate 256 0; insides = replicate 64 inside; fronts = replicate 64 0; backs = replicate 64 0; live = 0; held = 0; next = n; end = n; faults = record { number = 0; count = 0; reason = 0 }; index = replicate 765 0; seats = replicate 765 0; code = 0; window = replicate 32768 0 })
+    (record { orders = replicate 256 order; keys = replicate 256 0; insides = replicate 64 inside; fronts = replicate 64 0; backs = replicate 64 0; live = 0; held = 0; next = n; end = n; faults = record { number = 0; count = 0; reason = 0 }; index = replicate 765 0; symbols = replicate 765 0; code = 0; window = replicate 32768 0 })
     (rep (opened feed n))
 unfolding places
-opened-with n o i = (λ j. record { orders = replicate 256 (o j); keys = replicate 256 0; insides = replicate 64 (i j); fronts = replicate 64 0; backs = replicate 64 0; live = 0; held = 0; next = n; end = n; faults = record { number = 0; count = 0; reason = 0 }; index = replicate 765 0; seats = replicate 765 0; code = 0; window = replicate 32768 0 }) ∙ opens-fresh n
+opened-with n o i = (λ j. record { orders = replicate 256 (o j); keys = replicate 256 0; insides = replicate 64 (i j); fronts = replicate 64 0; backs = replicate 64 0; live = 0; held = 0; next = n; end = n; faults = record { number = 0; count = 0; reason = 0 }; index = replicate 765 0; symbols = replicate 765 0; code = 0; window = replicate 32768 0 }) ∙ opens-fresh n
 
 pub rule-of : {s t : Session} → s ≡ t → Ruled t → Ruled s
 rule-of e r = subst Ruled (sym e) r
 
 -- ---- one packet
 
--- the numbers of the tests are at most 10
-abbrev few : List Test → Bool
-few [] = true
-few (t ∷ ts) = leb (t .1 .0) 10 && few ts
+-- the numbers of the tests are at most this
+abbrev pub few : ℕ → List Test → Bool
+few top [] = true
+few top (t ∷ ts) = leb (t .1 .0) top && few top ts
 
-both : (a b : Bool) → (a && b) ≡ true → (a ≡ true) × (b ≡ true)
+pub both : (a b : Bool) → (a && b) ≡ true → (a ≡ true) × (b ≡ true)
 both true b h = (refl, h)
 both false b h = absurd (omega (arith, ap {B = ℕ} (λ (c : Bool). cond c 1 0) h))
 
-small-by : (b : Bool) (t d : ℕ × ℕ) → t .0 ≤ 10 → d .0 ≤ 10 → cond b t d .0 ≤ 10
-small-by true t d h g = h
-small-by false t d h g = g
+small-by : (top : ℕ) (b : Bool) (t d : ℕ × ℕ) → t .0 ≤ top → d .0 ≤ top → cond b t d .0 ≤ top
+small-by top true t d h g = h
+small-by top false t d h g = g
 
-small : (ts : List Test) → few ts ≡ true → decided ts .0 ≤ 10
-small [] h = omega arith
-small (t ∷ ts) h = let b = both (leb (t .1 .0) 10) (few ts) h in small-by (t .0) (t .1) (decided ts) (leb-true (t .1 .0) 10 (b .0)) (small ts (b .1))
+small : (top : ℕ) (ts : List Test) → few top ts ≡ true → decided ts .0 ≤ top
+small top [] h = omega arith
+small top (t ∷ ts) h = let b = both (leb (t .1 .0) top) (few top ts) h in small-by top (t .0) (t .1) (decided ts) (leb-true (t .1 .0) top (b .0)) (small top ts (b .1))
 
-few-more : (xs ys : List Test) → few xs ≡ true → few ys ≡ true → few (xs ++ ys) ≡ true
-few-more [] ys h g = g
-few-more (x ∷ xs) ys h g = let b = both (leb (x .1 .0) 10) (few xs) h in ap₂ _&&_ (b .0) (few-more xs ys (b .1) g)
+few-more : (top : ℕ) (xs ys : List Test) → few top xs ≡ true → few top ys ≡ true → few top (xs ++ ys) ≡ true
+few-more top [] ys h g = g
+few-more top (x ∷ xs) ys h g = let b = both (leb (x .1 .0) top) (few top xs) h in ap₂ _&&_ (b .0) (few-more top xs ys (b .1) g)
 
-few-unless : (b : Bool) (ts : List Test) → few ts ≡ true → few (unlessHeartbeat b ts) ≡ true
-few-unless true ts h = refl
-few-unless false ts h = h
+few-unless : (top : ℕ) (b : Bool) (ts : List Test) → few top ts ≡ true → few top (unlessHeartbeat b ts) ≡ true
+few-unless top true ts h = refl
+few-unless top false ts h = h
 
-pub refusal-small : (x : State) (s : List ℕ) → refusalOf x s ≤ 10
-unfolding takeTests packetTests headerTests flagTests bodyTests
+-- 1 to 8 without a session, and 1 to 10 with one
+packet-few : (top : ℕ) (s : List ℕ) → few top (headerTests s) ≡ true → few top (bodyTests (walkFrom (headerIn s .messages) 12 s) (headerIn s .seq) (headerIn s .messages)) ≡ true → few top (packetTests s) ≡ true
+unfolding packetTests
+packet-few top s h g =
+    few-more top (headerTests s) (unlessHeartbeat (header.heartbeat (headerIn s .flag)) (bodyTests (walkFrom (headerIn s .messages) 12 s) (headerIn s .seq) (headerIn s .messages))) h
+    (few-unless top (header.heartbeat (headerIn s .flag)) (bodyTests (walkFrom (headerIn s .messages) 12 s) (headerIn s .seq) (headerIn s .messages)) g)
+
+pub packet-small : (s : List ℕ) → few 8 (packetTests s) ≡ true
+unfolding headerTests flagTests bodyTests
+packet-small s = packet-few 8 s refl refl
+
+pub refusal-small : (x : Meaning) (s : List ℕ) → refusalOf x s ≤ 10
+unfolding takeTests headerTests flagTests bodyTests
 refusal-small x s =
-    small (takeTests x s)
-    (few-more (packetTests s) (unlessHeartbeat (header.heartbeat (headerIn s .flag)) (waitTests x s))
-    (few-more (headerTests s) (unlessHeartbeat (header.heartbeat (headerIn s .flag)) (bodyTests (walkFrom (headerIn s .messages) 12 s) (headerIn s .seq) (headerIn s .messages))) refl
-    (few-unless (header.heartbeat (headerIn s .flag)) (bodyTests (walkFrom (headerIn s .messages) 12 s) (headerIn s .seq) (headerIn s .messages)) refl))
-    (few-unless (header.heartbeat (headerIn s .flag)) (waitTests x s) refl))
+    small 10 (takeTests x s)
+    (few-more 10 (packetTests s) (unlessHeartbeat (header.heartbeat (headerIn s .flag)) (waitTests x s)) (packet-few 10 s refl refl)
+    (few-unless 10 (header.heartbeat (headerIn s .flag)) (waitTests x s) refl))
 
 one-packet : (s : List ℕ) → packetsOf true s ≡ s ∷ []
 one-packet s = ap (λ (l : List ℕ). l ∷ []) (part-all s)
@@ -114,7 +123,7 @@ one-packet s = ap (λ (l : List ℕ). l ∷ []) (part-all s)
 pub one-runs : (s : List ℕ) → Runs true s 1 4
 one-runs s = record { all = omega arith; room = omega arith; big = omega arith }
 
-module _ (x : State) (s : List ℕ) {l : List ℕ} (rows : l ≡ splice (0 ∷ 0 ∷ 0 ∷ 0 ∷ []) 0 (rowsOf x (take 1 (packetsOf true s)))) where
+module _ (x : Meaning) (s : List ℕ) {l : List ℕ} (rows : l ≡ splice (0 ∷ 0 ∷ 0 ∷ 0 ∷ []) 0 (rowsOf x (take 1 (packetsOf true s)))) where
   four : l ≡ rowOf x s
   unfolding splice rowsOf
   four = rows ∙ ap (λ (ps : List (List ℕ)). splice (0 ∷ 0 ∷ 0 ∷ 0 ∷ []) 0 (rowsOf x ps)) (one-packet s)
@@ -213,47 +222,6 @@ first-bytes (suc n) (s ∷ ss) h = (h .0, first-bytes n ss (h .1))
 
 pub rule-packets : {session : Session} → Ruled session → (single : Bool) (s : List ℕ) (n : ℕ) → Bytes s → {after : Session} → after ≡ rep (takeAll overnight (view session) (take n (packetsOf single s))) → Ruled after
 rule-packets rule single s n bytes e = rule-of e (ruled-more rule (take n (packetsOf single s)) (first-bytes n (packetsOf single s) (parts-bytes s bytes (framesOf single s))))
-
--- ---- counting the packets of a burst
-
-pub record Counting (s : List ℕ) (at n : ℕ) : Type 0 where
-  pub within : at ≤ length s
-  pub apart : 2 * n ≤ at
-  pub rest : length (burstFrom (length s) 0 s) ≡ n + length (burstFrom (length s - n) at s)
-
-pub count-start : (s : List ℕ) → Counting s 0 0
-count-start s =
-    let e : length s - 0 ≡ length s = omega arith in
-    let f : 0 + length (burstFrom (length s) 0 s) ≡ length (burstFrom (length s) 0 s) = omega arith in
-    record { within = omega arith; apart = omega arith; rest = sym (ap (λ (k : ℕ). 0 + length (burstFrom k 0 s)) e ∙ f) }
-
-module _ {s : List ℕ} {at n : ℕ} (g : Counting s at n) where
-  stop : (fuel : ℕ) → leb (at + 2 + lengthAt s at) (length s) ≡ false → length (burstFrom fuel at s) ≡ 0
-  unfolding burstFrom
-  stop zero e = refl
-  stop (suc fuel) e = ap (λ (b : Bool). length (cond b ((at + 2, lengthAt s at) ∷ burstFrom fuel (at + 2 + lengthAt s at) s) [])) e
-
-  ends : leb (at + 2 + lengthAt s at) (length s) ≡ false → n ≡ length (burstFrom (length s) 0 s)
-  ends e = omega (arith, g .rest, stop (length s - n) e)
-
-  pub no-length : length s - at < 2 → n ≡ length (burstFrom (length s) 0 s)
-  no-length h = ends (lt-leb (at + 2 + lengthAt s at) (length s) (omega (arith, g .within)))
-
-  module _ (some : 2 ≤ length s - at) {size : ℕ} (told : size ≡ lengthAt s at) where
-    pub cut-short : length s - at - 2 < size → n ≡ length (burstFrom (length s) 0 s)
-    cut-short h = ends (lt-leb (at + 2 + lengthAt s at) (length s) (omega (arith, told)))
-
-    pub one-more : size ≤ length s - at - 2 → Counting s (at + (2 + size)) (n + 1)
-    unfolding burstFrom
-    one-more h =
-        let fits : leb (at + 2 + lengthAt s at) (length s) ≡ true = le-leb (at + 2 + lengthAt s at) (length s) (omega (arith, told)) in
-        let fuel : length s - n ≡ suc (length s - (n + 1)) = omega (arith, g .apart) in
-        let to : at + 2 + lengthAt s at ≡ at + (2 + size) = omega (arith, told) in
-        let step : length (burstFrom (length s - n) at s) ≡ suc (length (burstFrom (length s - (n + 1)) (at + (2 + size)) s)) =
-        ap (λ (k : ℕ). length (burstFrom k at s)) fuel
-        ∙ ap (λ (b : Bool). length (cond b ((at + 2, lengthAt s at) ∷ burstFrom (length s - (n + 1)) (at + 2 + lengthAt s at) s) [])) fits
-        ∙ ap (λ (k : ℕ). suc (length (burstFrom (length s - (n + 1)) k s))) to in
-        record { within = omega arith; apart = omega (arith, g .apart); rest = omega (arith, g .rest, step) }
 
 -- ---- what is missing
 

@@ -10,10 +10,10 @@ use lib.Dec.{eqb}
 use lib.ListN.{length, take}
 use lib.Seq.{length-take-le}
 use Rattle.fields.specs.Id.{noValue}
-use Rattle.index.specs.Chains.{IsLast, firstFrom}
-use Rattle.index.specs.Pairs.{IsPair, Paired, firstPair}
-use Rattle.index.proofs.Laws.{last-first}
-use Rattle.index.proofs.Pairs.{pair-first}
+use Rattle.book_index.specs.Chains.{IsLast, firstFrom}
+use Rattle.book_index.specs.Pairs.{IsPair, Paired, firstPair}
+use Rattle.book_index.proofs.Laws.{last-first}
+use Rattle.book_index.proofs.Pairs.{pair-first}
 use Rattle.book.specs.Lookup.{backOf, frontOf, keyAt, keyFrom, pairFrom, symbolAt}
 use Rattle.book.specs.Rule.{Apart, Distinct}
 use Rattle.book.specs.declared.lookup.Found.{Found}
@@ -73,20 +73,20 @@ module _ (symbol fronts backs : List ℕ) (held : ℕ) {first last : ℕ} (fore 
   no-symbol e = sym (ap (λ (b : Bool). cond b Nothing (pairFrom 0 (frontOf symbol) (backOf symbol) (take held fronts) (take held backs))) (eq-eqb (frontOf symbol) 0 (sym fore ∙ e)))
 
   module _ (paired : length (take held fronts) ≡ length (take held backs)) (apart : Apart (take held fronts) (take held backs)) (named : first ≡ 0 → ⊥) {at : ℕ} (is : IsPair first last fronts backs held at) where
-    is-seat : symbolAt symbol (take held fronts) (take held backs) ≡ placeOf at
+    is-held : symbolAt symbol (take held fronts) (take held backs) ≡ placeOf at
     unfolding symbolAt
-    is-seat =
+    is-held =
         ap (λ (b : Bool). cond b Nothing (pairFrom 0 (frontOf symbol) (backOf symbol) (take held fronts) (take held backs))) (ne-eqb (frontOf symbol) 0 (λ e. named (fore ∙ e)))
         ∙ (λ i. pairFrom 0 (sym fore i) (sym aft i) (take held fronts) (take held backs))
         ∙ same-pair 0 first last (take held fronts) (take held backs)
         ∙ ap placeOf (sym (is .is ∙ pair-first first last (take held fronts) (take held backs) paired apart))
 
-    pub no-seat : at ≡ 0 → Nothing ≡ symbolAt symbol (take held fronts) (take held backs)
-    no-seat e = sym (is-seat ∙ ap placeOf e)
+    pub not-held : at ≡ 0 → Nothing ≡ symbolAt symbol (take held fronts) (take held backs)
+    not-held e = sym (is-held ∙ ap placeOf e)
 
-    pub seat-there : (at ≡ 0 → ⊥) → At (at - 1) ≡ symbolAt symbol (take held fronts) (take held backs)
-    seat-there any = let e : at ≡ suc (at - 1) = omega (arith, any) in sym (is-seat ∙ ap placeOf e)
+    pub held-there : (at ≡ 0 → ⊥) → At (at - 1) ≡ symbolAt symbol (take held fronts) (take held backs)
+    held-there any = let e : at ≡ suc (at - 1) = omega (arith, any) in sym (is-held ∙ ap placeOf e)
 
-pub held-same : {seats fronts backs : List ℕ} {held : ℕ} → Paired seats fronts backs held → length (take held fronts) ≡ length (take held backs)
-held-same {seats} {fronts} {backs} {held} x =
+pub held-same : {symbols fronts backs : List ℕ} {held : ℕ} → Paired symbols fronts backs held → length (take held fronts) ≡ length (take held backs)
+held-same {symbols} {fronts} {backs} {held} x =
     length-take-le held fronts (omega (arith, x .few, x .fronts)) ∙ sym (length-take-le held backs (omega (arith, x .few, x .backs)))

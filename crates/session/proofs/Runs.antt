@@ -2,7 +2,7 @@
 -- Assumes nothing.
 use mathlib.Core.Path.{_≡_, refl, ap, ap₂, _∙_, sym, subst}
 use mathlib.Core.Bool.{Bool, true, false, cond, _&&_}
-use mathlib.Core.List.{List, [], _∷_, _++_, append-nil, map}
+use mathlib.Core.List.{List, [], _∷_, _++_, map}
 use mathlib.Core.Logic.{by-cases}
 use mathlib.Core.Option.{Option, none, some, Option·none-ne-some}
 use Prim.Native.Nat.{ℕ, zero, suc, _+_, _-_, _*_, _%_, _≤_, _<_, min}
@@ -15,41 +15,42 @@ use lib.ListN.{length, getD, take, set, length-set}
 use lib.Seq.{length-take-le}
 use Rattle.wire.specs.Number.{Bytes, part, splice}
 use Rattle.wire.proofs.Place.{length-splice, part-bytes, splice-next, splice-none}
-use Rattle.merge.specs.Session as merge
-use Rattle.merge.specs.Session.{Packet, applyUpTo, freedAt, keep, keptAt, step, takeAll, takeIf, takeOne}
-use Rattle.merge.specs.Places.{InPlaces, Put, numberAt}
+use Rattle.merge.specs.State as merge
+use Rattle.merge.specs.State.{Packet, applyUpTo, freedAt, keep, keptAt, step, takeAll, takeIf, takeOne}
+use Rattle.merge.specs.Places.{InPlaces, numberAt}
 use Rattle.merge.proofs.Clauses.{freed-other}
 use Rattle.merge.proofs.Lowest.{stuck}
 use Rattle.merge.proofs.Places.{held-place, step-put}
 use Rattle.merge.proofs.Window.{nothing-waits, waits-where}
 use Rattle.packet.specs.Header.{decided}
-use Rattle.index.specs.Chains.{Indexed, indexOf}
-use Rattle.index.specs.Pairs.{Paired}
-use Rattle.index.specs.Changes.{Open as Room, Leaving, without}
-use Rattle.index.proofs.Kept.{asks-put, asks-remove, kept-put, kept-remove}
-use Rattle.index.proofs.Pairs.{asks-seat, kept-seat}
-use Rattle.waiting.specs.Window.{sizeAt, startOf, waitsAt, windowOf, zeros}
-use Rattle.waiting.proofs.Held.{clear-window, with, with-other, with-same}
-use Rattle.waiting.proofs.Parts.{part-front, part-long}
-use Rattle.book.specs.Applying.{Whole, applyOf}
+use Rattle.book_index.specs.Chains.{Indexed, indexOf}
+use Rattle.book_index.specs.Pairs.{Paired}
+use Rattle.book_index.specs.Changes.{Open as Room, Leaving, without}
+use Rattle.book_index.proofs.Kept.{asks-put, asks-remove, kept-put, kept-remove}
+use Rattle.book_index.proofs.Pairs.{asks-pair, kept-pair}
+use Rattle.window.specs.Window.{sizeAt, startOf, waitsAt, zeros}
+use Rattle.window.proofs.Held.{clear-window, with, with-other, with-same}
+use Rattle.wire.proofs.Parts.{part-front, part-long}
+use Rattle.message.specs.Whole.{Whole}
+use Rattle.book.specs.Applying.{applyOf}
 use Rattle.book.specs.Rule.{Apart, Distinct, Kept}
 use Rattle.book.specs.Tables as book
 use Rattle.book.specs.Tables.{Tables, frontsOf}
 use Rattle.book.specs.declared.tables.Book.{Book}
 use Rattle.book.proofs.Keeping as keeping
-use Rattle.source.specs.Source.{Begins, Goes, Lies as InBytes, messageAt, onwardOf, sizeIn, textAfter, windowAfter}
-use Rattle.source.specs.declared.Source.{Source}
-use Rattle.source.proofs.Choices.{freed-packet, freed-window, message-packet, message-window, onward-packet, onward-window, size-packet, size-window, text-packet, text-window}
-use Rattle.taking.specs.Keeping.{Known, Neat, admittedOf, countOf, heldBy, keptBy, keptIf, startsAt, stateOf, straightIn, waitingOf, windowFor}
-use Rattle.taking.specs.Taking.{bytesAt, judge, takeTests}
-use Rattle.taking.specs.Turns.{Closes, Follows, Lies, answerIf, atStart, behind, closing, frameAt, lengthAt, packetAt, placeAfter, placeIf, turnOf}
-use Rattle.taking.specs.declared.turning.Turn.{Turn}
-use Rattle.taking.proofs.Ahead.{Ahead, ahead-of, freed, level-of}
-use Rattle.taking.proofs.Windows.{Within, fine, in-places, place-free, place-used, placed, same-window, waiting-for, waits-place, window-size}
-use Rattle.session.specs.Meaning.{State, bookIn, feed, overnight, rep, sessionOf, view, Ruled}
-use Rattle.session.specs.Bursts.{Runs, burstFrom, framesOf, packetsOf, refusalOf, rowOf, rowWith, rowsOf}
+use Rattle.session_message.specs.Source.{Begins, Goes, Lies as InBytes, messageAt, onwardOf, sizeIn, textAfter, windowAfter}
+use Rattle.session_message.specs.declared.Source.{Source}
+use Rattle.session_message.proofs.Choices.{freed-packet, freed-window, message-packet, message-window, onward-packet, onward-window, size-packet, size-window, text-packet, text-window}
+use Rattle.window_taking.specs.Keeping.{Known, Neat, admittedOf, countOf, heldBy, keptBy, keptIf, startsAt, stateOf, straightIn, waitingOf, windowFor}
+use Rattle.window_taking.specs.Taking.{bytesAt, judge, takeTests}
+use Rattle.window_taking.specs.Turns.{Closes, Follows, Lies, answerIf, atStart, behind, burstFrom, closing, frameAt, framesOf, lengthAt, packetAt, packetsOf, placeAfter, placeIf, turnOf}
+use Rattle.window_taking.specs.declared.burst.Turn.{Turn}
+use Rattle.window_taking.proofs.Ahead.{Ahead, ahead-of, freed, level-of}
+use Rattle.window_taking.proofs.Windows.{fine, in-places, place-free, place-used, placed, same-window, waiting-for, waits-place, window-size}
+use Rattle.session.specs.Meaning.{Meaning, bookIn, feed, overnight, rep, sessionOf, view, Ruled}
+use Rattle.session.specs.Bursts.{Runs, refusalOf, rowWith, rowsOf}
 use Rattle.session.specs.declared.state.Session.{Session}
-use Rattle.session.proofs.States.{Good, Stands, good-kept, good-step, backs-of, fronts-of, ids-of, index-of, indexed-rep, seated-rep, seats-of, kept, meaning, neat, stands, waits-below, within}
+use Rattle.session.proofs.States.{Good, Stands, good-kept, good-step, backs-of, fronts-of, ids-of, index-of, indexed-rep, held-at-rep, symbols-of, kept, meaning, neat, stands, waits-below, within}
 
 -- ---- the packets that are left lie one behind the other
 
@@ -87,35 +88,35 @@ take-map (suc n) f (x ∷ l) = ap (λ (k : List (List ℕ)). f x ∷ k) (take-ma
 
 -- ---- a packet, on the window alone and on the whole session
 
-abbrev bare : State → merge.Session (List ℕ) (Unit {0})
+abbrev bare : Meaning → merge.State (List ℕ) (Unit {0})
 bare x = record { next = x .next; end = x .end; waiting = x .waiting; tables = tt }
 
-bare-judge : (x : State) (p : List ℕ) → judge (bare x) p ≡ judge x p
+bare-judge : (x : Meaning) (p : List ℕ) → judge (bare x) p ≡ judge x p
 unfolding judge takeTests
 bare-judge x p = refl
 
-bare-refusal : (x : State) (p : List ℕ) → decided (takeTests (bare x) p) .0 ≡ refusalOf x p
+bare-refusal : (x : Meaning) (p : List ℕ) → decided (takeTests (bare x) p) .0 ≡ refusalOf x p
 unfolding takeTests
 bare-refusal x p = refl
 
-bare-if : (x : State) (o : Option (Packet (List ℕ))) → (keptIf (bare x) o .waiting ≡ keptIf x o .waiting) × (keptIf (bare x) o .end ≡ keptIf x o .end)
+bare-if : (x : Meaning) (o : Option (Packet (List ℕ))) → (keptIf (bare x) o .waiting ≡ keptIf x o .waiting) × (keptIf (bare x) o .end ≡ keptIf x o .end)
 unfolding keptIf keep keptAt
 bare-if x none = (refl, refl)
 bare-if x (some p) = (refl, refl)
 
-kept-next : (x : State) (o : Option (Packet (List ℕ))) → (keptIf x o .next ≡ x .next) × (keptIf x o .tables ≡ x .tables)
+kept-next : (x : Meaning) (o : Option (Packet (List ℕ))) → (keptIf x o .next ≡ x .next) × (keptIf x o .tables ≡ x .tables)
 unfolding keptIf keep
 kept-next x none = (refl, refl)
 kept-next x (some p) = (refl, refl)
 
-bare-straight : (x : State) (p : List ℕ) → straightIn (bare x) p ≡ straightIn x p
+bare-straight : (x : Meaning) (p : List ℕ) → straightIn (bare x) p ≡ straightIn x p
 unfolding straightIn
 bare-straight x p = ap (λ (o : Option (Packet (List ℕ))). eqb (x .end) (x .next) && startsAt (x .next) o) (bare-judge x p)
 
-bare-kept : (x : State) (p : List ℕ) → keptBy (bare x) p .waiting ≡ keptBy x p .waiting
+bare-kept : (x : Meaning) (p : List ℕ) → keptBy (bare x) p .waiting ≡ keptBy x p .waiting
 bare-kept x p = ap (λ (o : Option (Packet (List ℕ))). keptIf (bare x) o .waiting) (bare-judge x p) ∙ bare-if x (judge x p) .0
 
-bare-held : (x : State) (p : List ℕ) → heldBy (bare x) p .waiting ≡ heldBy x p .waiting
+bare-held : (x : Meaning) (p : List ℕ) → heldBy (bare x) p .waiting ≡ heldBy x p .waiting
 unfolding heldBy
 bare-held x p = ap (λ (b : Bool). cond b (bare x) (keptBy (bare x) p) .waiting) (bare-straight x p) ∙ go (straightIn x p)
   where
@@ -123,12 +124,12 @@ bare-held x p = ap (λ (b : Bool). cond b (bare x) (keptBy (bare x) p) .waiting)
     go true = refl
     go false = bare-kept x p
 
-held-by : (x : State) (p : List ℕ) (b : Bool) → straightIn x p ≡ b → heldBy x p ≡ cond b x (keptBy x p)
+held-by : (x : Meaning) (p : List ℕ) (b : Bool) → straightIn x p ≡ b → heldBy x p ≡ cond b x (keptBy x p)
 unfolding heldBy
 held-by x p b e = ap (λ (c : Bool). cond c x (keptBy x p)) e
 
 -- with nothing left to apply before it, a packet is kept and then all is applied that can be
-take-kept : (x : State) (p : List ℕ) → x .waiting (x .next) ≡ none → takeOne overnight x p ≡ applyUpTo feed 256 (keptBy x p)
+take-kept : (x : Meaning) (p : List ℕ) → x .waiting (x .next) ≡ none → takeOne overnight x p ≡ applyUpTo feed 256 (keptBy x p)
 unfolding takeOne takeIf keptIf
 take-kept x p front = go (judge x p)
   where
@@ -136,7 +137,7 @@ take-kept x p front = go (judge x p)
     go none = sym (stuck feed 256 front)
     go (some q) = refl
 
-module _ (x : State) {w : List ℕ} {next end : ℕ} (g : Good x) (window : w ≡ windowFor (x .waiting) (x .next)) (at : next ≡ x .next) (ends : end ≡ x .end) (p : List ℕ) where
+module _ (x : Meaning) {w : List ℕ} {next end : ℕ} (g : Good x) (window : w ≡ windowFor (x .waiting) (x .next)) (at : next ≡ x .next) (ends : end ≡ x .end) (p : List ℕ) where
   as-state : stateOf w next end ≡ bare x
   as-state =
       let waits : waitingOf w next ≡ x .waiting = ap₂ waitingOf window at ∙ waiting-for (within g) in
@@ -144,18 +145,18 @@ module _ (x : State) {w : List ℕ} {next end : ℕ} (g : Good x) (window : w �
 
   state-refusal : admittedOf (stateOf w next end) p .refusal ≡ refusalOf x p
   unfolding admittedOf
-  state-refusal = ap (λ (z : merge.Session (List ℕ) (Unit {0})). decided (takeTests z p) .0) as-state ∙ bare-refusal x p
+  state-refusal = ap (λ (z : merge.State (List ℕ) (Unit {0})). decided (takeTests z p) .0) as-state ∙ bare-refusal x p
 
   state-end : admittedOf (stateOf w next end) p .end ≡ keptBy x p .end
   unfolding admittedOf
-  state-end = ap (λ (z : merge.Session (List ℕ) (Unit {0})). keptBy z p .end) as-state ∙ ap (λ (o : Option (Packet (List ℕ))). keptIf (bare x) o .end) (bare-judge x p) ∙ bare-if x (judge x p) .1
+  state-end = ap (λ (z : merge.State (List ℕ) (Unit {0})). keptBy z p .end) as-state ∙ ap (λ (o : Option (Packet (List ℕ))). keptIf (bare x) o .end) (bare-judge x p) ∙ bare-if x (judge x p) .1
 
   state-direct : admittedOf (stateOf w next end) p .direct ≡ cond (straightIn x p) (countOf (judge x p)) 0
   unfolding admittedOf
-  state-direct = ap (λ (z : merge.Session (List ℕ) (Unit {0})). cond (straightIn z p) (countOf (judge z p)) 0) as-state ∙ (λ i. cond (bare-straight x p i) (countOf (bare-judge x p i)) 0)
+  state-direct = ap (λ (z : merge.State (List ℕ) (Unit {0})). cond (straightIn z p) (countOf (judge z p)) 0) as-state ∙ (λ i. cond (bare-straight x p i) (countOf (bare-judge x p i)) 0)
 
   state-held : heldBy (stateOf w next end) p .waiting ≡ heldBy x p .waiting
-  state-held = ap (λ (z : merge.Session (List ℕ) (Unit {0})). heldBy z p .waiting) as-state ∙ bare-held x p
+  state-held = ap (λ (z : merge.State (List ℕ) (Unit {0})). heldBy z p .waiting) as-state ∙ bare-held x p
 
   pub state-known : Known w next end
   state-known =
@@ -167,19 +168,19 @@ module _ (x : State) {w : List ℕ} {next end : ℕ} (g : Good x) (window : w �
 
 -- ---- where the engine is
 
-abbrev pub finish : State → ℕ → ℕ → State
+abbrev pub finish : Meaning → ℕ → ℕ → Meaning
 finish x before next = applyUpTo feed (before + 256 - next) x
 
 -- the answers that are to come, from the one at hand on
-abbrev rowsFrom : Turn → List ℕ → State → List (ℕ × ℕ) → List ℕ
+abbrev rowsFrom : Turn → List ℕ → Meaning → List (ℕ × ℕ) → List ℕ
 rowsFrom turn s z rest = answerIf (turn .begun) (rowWith (turn .before) (turn .refusal) z) ++ rowsOf z (map (bytesAt s) rest)
 
-pub record Open (all : State) (written : List ℕ) (s : List ℕ) (single : Bool) (answers : List ℕ) (b : Book) (index seats w : List ℕ) (next : ℕ) (turn : Turn) (source : Source) : Type 0 where
-  pub state : State
+pub record Open (all : Meaning) (written : List ℕ) (s : List ℕ) (single : Bool) (answers : List ℕ) (b : Book) (index symbols w : List ℕ) (next : ℕ) (turn : Turn) (source : Source) : Type 0 where
+  pub state : Meaning
   pub good : Good state
   pub book : b ≡ book.rep (state .tables)
   pub indexed : Indexed index (b .keys) (b .live)
-  pub seated : Paired seats (b .fronts) (b .backs) (b .held)
+  pub held-at : Paired symbols (b .fronts) (b .backs) (b .held)
   pub ahead : Ahead s (source .left) (source .from) (state .next) w (state .waiting)
   pub long : length w ≡ 32768
   pub at : next ≡ state .next
@@ -195,9 +196,9 @@ pub record Open (all : State) (written : List ℕ) (s : List ℕ) (single : Bool
   pub big : length answers ≤ 18446744073709551615
 
 -- a packet is admitted
-module _ (all : State) (written : List ℕ) (x : State) (s : List ℕ) (single : Bool) (answers : List ℕ) {b : Book} {index seats w w′ : List ℕ} {next end at left place : ℕ} {turn : Turn}
+module _ (all : Meaning) (written : List ℕ) (x : Meaning) (s : List ℕ) (single : Bool) (answers : List ℕ) {b : Book} {index symbols w w′ : List ℕ} {next end at left place : ℕ} {turn : Turn}
     (bytes : Bytes s) (g : Good x) (front : x .waiting (x .next) ≡ none)
-    (books : b ≡ book.rep (x .tables)) (indexed : Indexed index (b .keys) (b .live)) (seated : Paired seats (b .fronts) (b .backs) (b .held)) (window : w ≡ windowFor (x .waiting) (x .next)) (nexts : next ≡ x .next) (ends : end ≡ x .end)
+    (books : b ≡ book.rep (x .tables)) (indexed : Indexed index (b .keys) (b .live)) (held-at : Paired symbols (b .fronts) (b .backs) (b .held)) (window : w ≡ windowFor (x .waiting) (x .next)) (nexts : next ≡ x .next) (ends : end ≡ x .end)
     (f : ℕ × ℕ) (fs : List (ℕ × ℕ)) (lie : Rest single s at (f ∷ fs)) (many : left ≡ length fs)
     (session : all ≡ takeAll overnight x (map (bytesAt s) (f ∷ fs)))
     (rows : written ≡ splice answers place (rowsOf x (map (bytesAt s) (f ∷ fs))))
@@ -211,7 +212,7 @@ module _ (all : State) (written : List ℕ) (x : State) (s : List ℕ) (single :
   same-packet : bytesAt s f ≡ packetAt single s at
   same-packet = ap (bytesAt s) (lie .1 .0)
 
-  y : State
+  y : Meaning
   y = keptBy x p
 
   taken : takeOne overnight x (bytesAt s f) ≡ finish y (turn .before) next
@@ -243,7 +244,7 @@ module _ (all : State) (written : List ℕ) (x : State) (s : List ℕ) (single :
   unfolding Led
   led true e =
       let free : (k : ℕ) → x .waiting k ≡ none = nothing-waits (g .inv) (level-of x (packetAt single s at) e) in
-      let is : w′ ≡ windowFor (x .waiting) (x .next) = after-held ∙ ap (λ (z : State). windowFor (z .waiting) (x .next)) (held-by x (packetAt single s at) true e) in
+      let is : w′ ≡ windowFor (x .waiting) (x .next) = after-held ∙ ap (λ (z : Meaning). windowFor (z .waiting) (x .next)) (held-by x (packetAt single s at) true e) in
       let first = ahead-of x s (frameAt single s at .start) (frameAt single s at .size) (lie .0 .within) part-of free is e in
       let count : countOf (judge x (packetAt single s at)) ≡ turn .direct = sym (direct-is ∙ ap (λ (c : Bool). cond c (countOf (judge x (packetAt single s at))) 0) e) in (
         subst (λ (n : ℕ). Ahead s (turn .direct) (turn .from) n w′ (keptBy x (packetAt single s at) .waiting)) (sym (kept-next x (judge x (packetAt single s at)) .0))
@@ -253,13 +254,13 @@ module _ (all : State) (written : List ℕ) (x : State) (s : List ℕ) (single :
       )
   led false e =
       let is : w′ ≡ windowFor (keptBy x (packetAt single s at) .waiting) (keptBy x (packetAt single s at) .next) =
-      after-held ∙ ap (λ (z : State). windowFor (z .waiting) (x .next)) (held-by x (packetAt single s at) false e) ∙ ap (windowFor (keptBy x (packetAt single s at) .waiting)) (sym (kept-next x (judge x (packetAt single s at)) .0)) in
+      after-held ∙ ap (λ (z : Meaning). windowFor (z .waiting) (x .next)) (held-by x (packetAt single s at) false e) ∙ ap (windowFor (keptBy x (packetAt single s at) .waiting)) (sym (kept-next x (judge x (packetAt single s at)) .0)) in
       let none-left : 0 ≡ turn .direct = sym (direct-is ∙ ap (λ (c : Bool). cond c (countOf (judge x (packetAt single s at))) 0) e) in (
         subst (λ (n : ℕ). Ahead s n (turn .from) (keptBy x (packetAt single s at) .next) w′ (keptBy x (packetAt single s at) .waiting)) none-left is,
         ap length is ∙ window-size (within good),
       )
 
-  pub opens : Open all written s single answers b index seats w′ next turn (record { left = turn .direct; from = turn .from })
+  pub opens : Open all written s single answers b index symbols w′ next turn (record { left = turn .direct; from = turn .from })
   unfolding takeAll rowsOf p y Led
   opens =
       let before : turn .before ≡ next = ap (λ (t : Turn). t .before) turned in
@@ -273,7 +274,7 @@ module _ (all : State) (written : List ℕ) (x : State) (s : List ℕ) (single :
         good = good;
         book = books ∙ ap book.rep (sym (kn .1));
         indexed = indexed;
-        seated = seated;
+        held-at = held-at;
         ahead = on .0;
         long = on .1;
         at = nexts ∙ sym (kn .0);
@@ -283,10 +284,10 @@ module _ (all : State) (written : List ℕ) (x : State) (s : List ℕ) (single :
         rest = fs;
         frames = subst (λ (n : ℕ). Rest single s n fs) (sym (ap (λ (t : Turn). t .at) turned)) (lie .1 .1);
         left = ap (λ (t : Turn). t .left) turned ∙ many;
-        session = session ∙ ap (λ (z : State). takeAll overnight z (map (bytesAt s) fs)) taken;
+        session = session ∙ ap (λ (z : Meaning). takeAll overnight z (map (bytesAt s) fs)) taken;
         rows =
             rows
-            ∙ ap (λ (z : State). splice answers place (rowWith (x .next) (refusalOf x (bytesAt s f)) z ++ rowsOf z (map (bytesAt s) fs))) taken
+            ∙ ap (λ (z : Meaning). splice answers place (rowWith (x .next) (refusalOf x (bytesAt s f)) z ++ rowsOf z (map (bytesAt s) fs))) taken
             ∙ (λ i. splice answers (sym (ap (λ (t : Turn). t .place) turned) i) (answerIf (sym begun i) (rowWith (sym (before ∙ nexts) i) (sym refusal i) (finish (keptBy x (packetAt single s at)) (turn .before) next)) ++ rowsOf (finish (keptBy x (packetAt single s at)) (turn .before) next) (map (bytesAt s) fs)));
         room = subst (λ (t : Turn). placeAfter t + 4 * t .left ≤ length answers) (sym turned) room;
         big = big;
@@ -309,7 +310,7 @@ none-ahead s left from next w waiting e a = subst (λ (n : ℕ). Ahead s n from 
 
 -- what the code knows of a message at next, once it is copied out
 pub record Here (s : List ℕ) (source : Source) (size : ℕ) (text : List ℕ) (next before faults : ℕ) : Type 0 where
-  pub whole : Whole (messageAt (take size text) s source size)
+  pub whole : Whole (messageAt text s source size)
   pub lies : InBytes s source size
   pub cut : size ≤ length text
   pub long : size ≡ length (take size text)
@@ -319,8 +320,8 @@ pub record Here (s : List ℕ) (source : Source) (size : ℕ) (text : List ℕ) 
   pub fewer : before + 256 - (next + 1) < before + 256 - next
 
 -- what waits at next, by the size where it lies
-module _ {all : State} {written : List ℕ} {s : List ℕ} {single : Bool} {answers : List ℕ} {b : Book} {index seats w : List ℕ} {next : ℕ} {turn : Turn} {source : Source}
-    (o : Open all written s single answers b index seats w next turn source) where
+module _ {all : Meaning} {written : List ℕ} {s : List ℕ} {single : Bool} {answers : List ℕ} {b : Book} {index symbols w : List ℕ} {next : ℕ} {turn : Turn} {source : Source}
+    (o : Open all written s single answers b index symbols w next turn source) where
   pub keeps : Kept b
   keeps = subst Kept (sym (o .book)) (kept (o .good))
 
@@ -387,7 +388,7 @@ module _ {all : State} {written : List ℕ} {s : List ℕ} {single : Bool} {answ
         put-row : written ≡ splice answers′ (placeAfter turn) (rowsOf (o .state) (map (bytesAt s) (o .rest)))
         put-row =
             o .rows
-            ∙ ap (λ (z : State). splice answers (turn .place) (rowsFrom turn s z (o .rest))) settled
+            ∙ ap (λ (z : Meaning). splice answers (turn .place) (rowsFrom turn s z (o .rest))) settled
             ∙ ap (λ (l : List ℕ). splice answers (turn .place) (l ++ rowsOf (o .state) (map (bytesAt s) (o .rest)))) (sym closed)
             ∙ sym (splice-next answers (turn .place) (closing turn next) (rowsOf (o .state) (map (bytesAt s) (o .rest))) (omega (arith, closes .room, row-long)))
             ∙ ap₂ (λ (l : List ℕ) (n : ℕ). splice l n (rowsOf (o .state) (map (bytesAt s) (o .rest)))) (sym put) row-long
@@ -396,14 +397,14 @@ module _ {all : State} {written : List ℕ} {s : List ℕ} {single : Bool} {answ
         same-length = ap length put ∙ length-splice answers (turn .place) (closing turn next) (omega (arith, closes .room, row-long))
 
         -- the last one
-        pub ends : turn .left ≡ 0 → (sessionOf b index seats w next (turn .end) ≡ rep all) × (answers′ ≡ written)
+        pub ends : turn .left ≡ 0 → (sessionOf b index symbols w next (turn .end) ≡ rep all) × (answers′ ≡ written)
         unfolding takeAll rowsOf
         ends last = go (o .rest) refl
           where
-            go : (l : List (ℕ × ℕ)) → o .rest ≡ l → (sessionOf b index seats w next (turn .end) ≡ rep all) × (answers′ ≡ written)
+            go : (l : List (ℕ × ℕ)) → o .rest ≡ l → (sessionOf b index symbols w next (turn .end) ≡ rep all) × (answers′ ≡ written)
             go [] e =
-                let whole-run : all ≡ o .state = o .session ∙ ap₂ (λ (z : State) (l : List (ℕ × ℕ)). takeAll overnight z (map (bytesAt s) l)) settled e in (
-                  (λ i. sessionOf (o .book i) (index-of (o .state .tables) (o .book) (o .indexed) i) (seats-of (o .state .tables) (o .book) (o .seated) i) (window i) (o .at i) (o .end i)) ∙ ap rep (sym whole-run),
+                let whole-run : all ≡ o .state = o .session ∙ ap₂ (λ (z : Meaning) (l : List (ℕ × ℕ)). takeAll overnight z (map (bytesAt s) l)) settled e in (
+                  (λ i. sessionOf (o .book i) (index-of (o .state .tables) (o .book) (o .indexed) i) (symbols-of (o .state .tables) (o .book) (o .held-at) i) (window i) (o .at i) (o .end i)) ∙ ap rep (sym whole-run),
                   sym (put-row ∙ ap (λ (l : List (ℕ × ℕ)). splice answers′ (placeAfter turn) (rowsOf (o .state) (map (bytesAt s) l))) e ∙ splice-none answers′ (placeAfter turn)),
                 )
             go (f ∷ fs) e = absurd (omega (arith, o .left, last, ap length e))
@@ -422,16 +423,16 @@ module _ {all : State} {written : List ℕ} {s : List ℕ} {single : Bool} {answ
 
           pub follows : {w′ : List ℕ} {turn′ : Turn} → Bytes s → turn′ ≡ turnOf (stateOf w next (turn .end)) single s (turn .at) (turn .left - 1) (placeAfter turn)
               → w′ ≡ windowFor (heldBy (stateOf w next (turn .end)) (packetAt single s (turn .at)) .waiting) next
-              → Open all written s single answers′ b index seats w′ next turn′ (record { left = turn′ .direct; from = turn′ .from })
+              → Open all written s single answers′ b index symbols w′ next turn′ (record { left = turn′ .direct; from = turn′ .from })
           follows {w′} {turn′} bytes turned after = go (o .rest) refl
             where
-              go : (l : List (ℕ × ℕ)) → o .rest ≡ l → Open all written s single answers′ b index seats w′ next turn′ (record { left = turn′ .direct; from = turn′ .from })
+              go : (l : List (ℕ × ℕ)) → o .rest ≡ l → Open all written s single answers′ b index symbols w′ next turn′ (record { left = turn′ .direct; from = turn′ .from })
               go [] e = absurd (another [] e refl)
               go (f ∷ fs) e =
-                  opens all written (o .state) s single answers′ bytes (o .good) front (o .book) (o .indexed) (o .seated) window (o .at) (o .end) f fs
+                  opens all written (o .state) s single answers′ bytes (o .good) front (o .book) (o .indexed) (o .held-at) window (o .at) (o .end) f fs
                   (subst (Rest single s (turn .at)) e (o .frames))
                   (omega (arith, o .left, ap length e))
-                  (o .session ∙ ap₂ (λ (z : State) (l : List (ℕ × ℕ)). takeAll overnight z (map (bytesAt s) l)) settled e)
+                  (o .session ∙ ap₂ (λ (z : Meaning) (l : List (ℕ × ℕ)). takeAll overnight z (map (bytesAt s) l)) settled e)
                   (put-row ∙ ap (λ (l : List (ℕ × ℕ)). splice answers′ (placeAfter turn) (rowsOf (o .state) (map (bytesAt s) l))) e)
                   (omega (arith, o .room, o .left, same-length, ap length e))
                   (omega (arith, o .big, same-length))
@@ -441,7 +442,7 @@ module _ {all : State} {written : List ℕ} {s : List ℕ} {single : Bool} {answ
     -- a message waits: it is applied
     module _ (used : size ≡ 0 → ⊥) (text : List ℕ) {text′ : List ℕ} (wide : length text ≡ 128) (fetched : text′ ≡ textAfter w text source (next % 256)) where
       abbrev m : List ℕ
-      m = messageAt (take size text′) s source size
+      m = messageAt text′ s source size
 
       -- in the window
       module _ (none-left : source .left ≡ 0) where
@@ -457,7 +458,7 @@ module _ {all : State} {written : List ℕ} {s : List ℕ} {single : Bool} {answ
 
         is-copied : m ≡ part w (startOf (next % 256)) size
         is-copied =
-            message-window source none-left (take size text′) s size
+            message-window source none-left text′ s size
             ∙ ap (take size) (fetched ∙ text-window source none-left w text (next % 256))
             ∙ part-front w (startOf (next % 256)) 128 size short
 
@@ -467,7 +468,7 @@ module _ {all : State} {written : List ℕ} {s : List ℕ} {single : Bool} {answ
         size-led = told ∙ size-packet source some-left w s (next % 256)
 
         is-led : m ≡ part s (source .from) (lengthAt s (source .from))
-        is-led = message-packet source some-left (take size text′) s size ∙ ap (part s (source .from)) size-led
+        is-led = message-packet source some-left text′ s size ∙ ap (part s (source .from)) size-led
 
       waits : o .state .waiting (o .state .next) ≡ some m
       waits =
@@ -513,7 +514,7 @@ module _ {all : State} {written : List ℕ} {s : List ℕ} {single : Bool} {answ
           by-cases (decLt next (turn .before + 256)) (λ l. l)
           (λ l. absurd (Option·none-ne-some _ (sym (o .near (o .state .next) (omega (arith, o .at))) ∙ waits)))
 
-      moved : State
+      moved : Meaning
       moved = step feed (o .state) (some m)
 
       onward : finish (o .state) (turn .before) next ≡ finish moved (turn .before) (next + 1)
@@ -527,7 +528,7 @@ module _ {all : State} {written : List ℕ} {s : List ℕ} {single : Bool} {answ
       freed-place : source .left ≡ 0 → splice w (startOf (next % 256)) (zeros 128) ≡ windowFor (moved .waiting) (moved .next)
       unfolding windowFor step moved
       freed-place none-left =
-          let x : State = o .state in
+          let x : Meaning = o .state in
           let place : ℕ → Option (List ℕ) = placed (within (o .good)) in
           let i : ℕ = x .next % 256 in
           let lt : i < 256 = mod-lt (x .next) {m = 256} (omega arith) in
@@ -558,18 +559,18 @@ module _ {all : State} {written : List ℕ} {s : List ℕ} {single : Bool} {answ
             ap length (freed-packet source n w (next % 256)) ∙ o .long,
           ))
 
-      pub applied : {b′ : Book} {index′ seats′ w′ : List ℕ} {source′ : Source} → b′ ≡ book.rep (applyOf (book.view b) next m) → Indexed index′ (b′ .keys) (b′ .live)
-          → Paired seats′ (b′ .fronts) (b′ .backs) (b′ .held)
-          → w′ ≡ windowAfter w source (next % 256) → source′ ≡ onwardOf source size → Open all written s single answers b′ index′ seats′ w′ (next + 1) turn source′
+      pub applied : {b′ : Book} {index′ symbols′ w′ : List ℕ} {source′ : Source} → b′ ≡ book.rep (applyOf (book.view b) next m) → Indexed index′ (b′ .keys) (b′ .live)
+          → Paired symbols′ (b′ .fronts) (b′ .backs) (b′ .held)
+          → w′ ≡ windowAfter w source (next % 256) → source′ ≡ onwardOf source size → Open all written s single answers b′ index′ symbols′ w′ (next + 1) turn source′
       unfolding step moved Led′
-      applied {b′} {index′} {seats′} {w′} {source′} books indexed seated is on =
+      applied {b′} {index′} {symbols′} {w′} {source′} books indexed held-at is on =
           let tables : book.view b ≡ o .state .tables = ap book.view (o .book) ∙ keeping.view-rep (o .state .tables) in
           record {
             state = step feed (o .state) (some m);
             good = good-step (o .good) waits;
             book = books ∙ ap₂ (λ (t : Tables) (n : ℕ). book.rep (applyOf t n m)) tables (o .at);
             indexed = indexed;
-            seated = seated;
+            held-at = held-at;
             ahead =
                 subst (λ (z : Source). Ahead s (z .left) (z .from) (o .state .next + 1) w′ (freedAt (o .state))) (sym on)
                 (subst (λ (l : List ℕ). Ahead s (onwardOf source size .left) (onwardOf source size .from) (o .state .next + 1) l (freedAt (o .state))) (sym is) (led-on .0));
@@ -581,8 +582,8 @@ module _ {all : State} {written : List ℕ} {s : List ℕ} {single : Bool} {answ
             rest = o .rest;
             frames = o .frames;
             left = o .left;
-            session = o .session ∙ ap (λ (z : State). takeAll overnight z (map (bytesAt s) (o .rest))) onward;
-            rows = o .rows ∙ ap (λ (z : State). splice answers (turn .place) (rowsFrom turn s z (o .rest))) onward;
+            session = o .session ∙ ap (λ (z : Meaning). takeAll overnight z (map (bytesAt s) (o .rest))) onward;
+            rows = o .rows ∙ ap (λ (z : Meaning). splice answers (turn .place) (rowsFrom turn s z (o .rest))) onward;
             room = o .room;
             big = o .big;
           }
@@ -614,10 +615,10 @@ bytes-of (b ∷ s) h = (h 0, bytes-of s (λ i. h (suc i)))
 -- where the burst begins: no packet is at hand
 module _ {session : Session} (rule : Ruled session) (s : List ℕ) (single : Bool) {count : ℕ} (answers : List ℕ) (runs : Runs single s count (length answers)) where
   pub starts : {turn : Turn} → turn ≡ atStart (session .next) (session .end) count
-      → Open (takeAll overnight (view session) (take count (packetsOf single s))) (splice answers 0 (rowsOf (view session) (take count (packetsOf single s)))) s single answers (bookIn session) (session .index) (session .seats) (session .window) (session .next) turn (record { left = 0; from = 0 })
+      → Open (takeAll overnight (view session) (take count (packetsOf single s))) (splice answers 0 (rowsOf (view session) (take count (packetsOf single s)))) s single answers (bookIn session) (session .index) (session .symbols) (session .window) (session .next) turn (record { left = 0; from = 0 })
   starts {turn} turned =
       let h : Stands session = stands rule in
-      let x : State = h .state in
+      let x : Meaning = h .state in
       let nexts : session .next ≡ x .next = ap (λ (z : Session). z .next) (h .same) in
       let books : bookIn session ≡ book.rep (x .tables) = ap bookIn (h .same) in
       let is : session .window ≡ windowFor (x .waiting) (x .next) = ap (λ (z : Session). z .window) (h .same) in
@@ -631,7 +632,7 @@ module _ {session : Session} (rule : Ruled session) (s : List ℕ) (single : Boo
         good = h .good;
         book = books;
         indexed = subst (λ (z : Session). Indexed (z .index) (z .keys) (z .live)) (sym (h .same)) (indexed-rep (h .good));
-        seated = subst (λ (z : Session). Paired (z .seats) (z .fronts) (z .backs) (z .held)) (sym (h .same)) (seated-rep (h .good));
+        held-at = subst (λ (z : Session). Paired (z .symbols) (z .fronts) (z .backs) (z .held)) (sym (h .same)) (held-at-rep (h .good));
         ahead = is;
         long = ap length is ∙ window-size (within (h .good));
         at = nexts;
@@ -641,18 +642,18 @@ module _ {session : Session} (rule : Ruled session) (s : List ℕ) (single : Boo
         rest = first;
         frames = subst (λ (n : ℕ). Rest single s n first) (sym (ap (λ (t : Turn). t .at) turned)) (rest-first count single s 0 (framesOf single s) (all-rest single s));
         left = ap (λ (t : Turn). t .left) turned ∙ sym many;
-        session = (λ i. takeAll overnight (meaning h i) (packets i)) ∙ ap (λ (z : State). takeAll overnight z (map (bytesAt s) first)) done;
+        session = (λ i. takeAll overnight (meaning h i) (packets i)) ∙ ap (λ (z : Meaning). takeAll overnight z (map (bytesAt s) first)) done;
         rows =
             (λ i. splice answers 0 (rowsOf (meaning h i) (packets i)))
-            ∙ ap (λ (z : State). splice answers 0 (rowsOf z (map (bytesAt s) first))) done
+            ∙ ap (λ (z : Meaning). splice answers 0 (rowsOf z (map (bytesAt s) first))) done
             ∙ (λ i. splice answers (sym (ap (λ (t : Turn). t .place) turned) i) (answerIf (sym (ap (λ (t : Turn). t .begun) turned) i) (rowWith (turn .before) (turn .refusal) (finish x (turn .before) (session .next))) ++ rowsOf (finish x (turn .before) (session .next)) (map (bytesAt s) first)));
         room = subst (λ (t : Turn). placeAfter t + 4 * t .left ≤ length answers) (sym turned) (omega (arith, runs .room));
         big = runs .big;
       }
 
 -- what the loop keeps
-pub record Going (all : State) (written : List ℕ) (s : List ℕ) (single : Bool) (answers₀ answers : List ℕ) (b : Book) (index seats w : List ℕ) (next : ℕ) (turn : Turn) (source : Source) (text : List ℕ) : Type 0 where
-  pub now : Open all written s single answers b index seats w next turn source
+pub record Going (all : Meaning) (written : List ℕ) (s : List ℕ) (single : Bool) (answers₀ answers : List ℕ) (b : Book) (index symbols w : List ℕ) (next : ℕ) (turn : Turn) (source : Source) (text : List ℕ) : Type 0 where
+  pub now : Open all written s single answers b index symbols w next turn source
   pub wide : length text ≡ 128
   pub same : length answers ≡ length answers₀
 
@@ -663,12 +664,12 @@ past-last zero l x = refl
 past-last (suc n) [] x = refl
 past-last (suc n) (a ∷ l) x = ap (λ (k : List ℕ). a ∷ k) (past-last n l x)
 
-module _ {seats fronts backs : List ℕ} {held : ℕ} (x : Paired seats fronts backs held) where
-  pub seat-asks : held < 64 → (ids : List ℕ) × Room seats ids held
-  seat-asks few = (take held fronts, asks-seat seats fronts backs held x few)
+module _ {symbols fronts backs : List ℕ} {held : ℕ} (x : Paired symbols fronts backs held) where
+  pub symbol-asks : held < 64 → (ids : List ℕ) × Room symbols ids held
+  symbol-asks few = (take held fronts, asks-pair symbols fronts backs held x few)
 
-  pub seat-keeps : {after : List ℕ} (first last : ℕ) → held < 64 → ((ids : List ℕ) → Room seats ids held → after ≡ indexOf (ids ++ (first ∷ []))) → Paired after (set fronts held first) (set backs held last) (held + 1)
-  seat-keeps {after} first last few is = kept-seat seats fronts backs held x first last few (is (take held fronts) (asks-seat seats fronts backs held x few))
+  pub symbol-keeps : {after : List ℕ} (first last : ℕ) → held < 64 → ((ids : List ℕ) → Room symbols ids held → after ≡ indexOf (ids ++ (first ∷ []))) → Paired after (set fronts held first) (set backs held last) (held + 1)
+  symbol-keeps {after} first last few is = kept-pair symbols fronts backs held x first last few (is (take held fronts) (asks-pair symbols fronts backs held x few))
 
 module _ {index keys : List ℕ} {live : ℕ} (x : Indexed index keys live) where
   pub put-asks : live < 256 → (ids : List ℕ) × Room index ids live

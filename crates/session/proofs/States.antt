@@ -9,7 +9,7 @@ use native.Mathlib.Decide.{decLt, ℕ-discrete}
 use native.Mathlib.Omega.{arith}
 use lib.ListN.{length-map, take}
 use Rattle.wire.specs.Number.{Bytes}
-use Rattle.merge.specs.Session.{Packet, applyUpTo, copyOf, endOf, firstOf, freedAt, keep, keptAt, opened, step, takeAll, takeIf, takeOne}
+use Rattle.merge.specs.State.{Packet, applyUpTo, copyOf, firstThere, freedAt, keep, opened, step, takeAll, takeIf, takeOne}
 use Rattle.merge.specs.History.{accepted}
 use Rattle.merge.specs.Promise.{Fits, Inv, Rule}
 use Rattle.merge.proofs.Clauses.{freed-next, freed-other, kept-new, kept-old}
@@ -17,27 +17,28 @@ use Rattle.merge.proofs.Demand3.{opened-rule, takeAll-rule}
 use Rattle.merge.proofs.Lowest.{front-free}
 use Rattle.merge.proofs.Rule.{keep-inv, opened-inv, step-inv}
 use Rattle.merge.proofs.Window.{next-end, waits-where}
-use Rattle.book.specs.Applying.{Whole, applyOf}
+use Rattle.message.specs.Whole.{Whole}
+use Rattle.book.specs.Applying.{applyOf}
 use Rattle.book.specs.Rule.{Kept, Ready, Sound}
 use Rattle.book.specs.Tables as book
 use Rattle.book.specs.Lookup.{backOf, frontOf}
 use Rattle.book.specs.Tables.{Tables, backsOf, frontsOf, idsOf}
 use Rattle.book.specs.declared.tables.Book.{Book}
 use Rattle.book.proofs.Steps.{front-keys}
-use Rattle.index.specs.Chains.{Indexed, indexOf}
-use Rattle.index.specs.Pairs.{Paired}
+use Rattle.book_index.specs.Chains.{Indexed, indexOf}
+use Rattle.book_index.specs.Pairs.{Paired}
 use Rattle.book.proofs.Keeping as keeping
 use Rattle.book.proofs.Laws.{counted-next}
-use Rattle.taking.specs.Keeping.{Neat, keptBy, keptIf, windowFor}
-use Rattle.taking.specs.Taking.{judge}
-use Rattle.taking.proofs.Accepted.{overnight-judged}
-use Rattle.taking.proofs.Passing.{Passes, passes}
-use Rattle.taking.proofs.Windows.{Within, neat-for, waiting-for}
-use Rattle.session.specs.Meaning.{AllBytes, Ruled, State, feed, overnight, rep, view}
+use Rattle.window_taking.specs.Keeping.{Neat, keptBy, keptIf, windowFor}
+use Rattle.window_taking.specs.Taking.{judge}
+use Rattle.window_taking.proofs.Accepted.{overnight-judged}
+use Rattle.window_taking.proofs.Passing.{Passes, passes}
+use Rattle.window_taking.proofs.Windows.{Within, neat-for, waiting-for}
+use Rattle.session.specs.Meaning.{AllBytes, Ruled, Meaning, feed, overnight, rep, view}
 use Rattle.session.specs.declared.state.Session.{Session}
 
 -- what all of them have, also between two messages
-pub record Good (x : State) : Type 0 where
+pub record Good (x : Meaning) : Type 0 where
   pub start : ℕ
   pub history : List (Packet (List ℕ))
   pub inv : Inv feed 256 start history x
@@ -46,7 +47,7 @@ pub record Good (x : State) : Type 0 where
   pub whole : (k : ℕ) (m : List ℕ) → x .waiting k ≡ some m → Whole m
   pub top : x .end ≤ 4294967296
 
-module _ {x : State} (g : Good x) where
+module _ {x : Meaning} (g : Good x) where
   pub within : Within (x .waiting) (x .next)
   within = record { low = g .inv .old; high = g .inv .near; whole = g .whole }
 
@@ -69,7 +70,7 @@ module _ {x : State} (g : Good x) where
   pub ready : {m : List ℕ} → x .waiting (x .next) ≡ some m → Ready (book.rep (x .tables)) (x .next) m
   ready {m} e = record { kept = kept; whole = g .whole (x .next) m e; counted = g .counted; within = waits-below (x .next) e }
 
-  either : (o o′ : Option (List ℕ)) {m : List ℕ} → ((a : List ℕ) → o ≡ some a → Whole a) → ((a : List ℕ) → o′ ≡ some a → Whole a) → firstOf o o′ ≡ some m → Whole m
+  either : (o o′ : Option (List ℕ)) {m : List ℕ} → ((a : List ℕ) → o ≡ some a → Whole a) → ((a : List ℕ) → o′ ≡ some a → Whole a) → firstThere o o′ ≡ some m → Whole m
   either none o′ {m} h h′ e = h′ m e
   either (some a) o′ {m} h h′ e = h m e
 
@@ -128,7 +129,7 @@ ids-of {b} t is =
 pub index-of : {b : Book} (t : Tables) {index : List ℕ} → b ≡ book.rep t → Indexed index (b .keys) (b .live) → index ≡ indexOf (idsOf (t .orders))
 index-of t is indexed = indexed .is ∙ ap indexOf (ids-of t is)
 
-pub indexed-rep : {x : State} → Good x → Indexed (indexOf (idsOf (x .tables .orders))) (book.rep (x .tables) .keys) (book.rep (x .tables) .live)
+pub indexed-rep : {x : Meaning} → Good x → Indexed (indexOf (idsOf (x .tables .orders))) (book.rep (x .tables) .keys) (book.rep (x .tables) .live)
 indexed-rep {x} g = record { few = kept g .live; size = kept g .keys; is = ap indexOf (sym (ids-of {b = book.rep (x .tables)} (x .tables) refl)) }
 
 -- so it is with the insides, by the first of their symbols' two numbers
@@ -140,24 +141,24 @@ pub backs-of : {b : Book} (t : Tables) → b ≡ book.rep t → take (b .held) (
 backs-of {b} t is =
     front-keys 64 (backsOf (t .insides)) (ap (λ (c : Book). c .backs) is) (ap (λ (c : Book). c .held) is ∙ sym (length-map (t .insides) (λ i. backOf (i .symbol))))
 
-pub seats-of : {b : Book} (t : Tables) {seats : List ℕ} → b ≡ book.rep t → Paired seats (b .fronts) (b .backs) (b .held) → seats ≡ indexOf (frontsOf (t .insides))
-seats-of t is paired = paired .is ∙ ap indexOf (fronts-of t is)
+pub symbols-of : {b : Book} (t : Tables) {symbols : List ℕ} → b ≡ book.rep t → Paired symbols (b .fronts) (b .backs) (b .held) → symbols ≡ indexOf (frontsOf (t .insides))
+symbols-of t is paired = paired .is ∙ ap indexOf (fronts-of t is)
 
-pub seated-rep : {x : State} → Good x → Paired (indexOf (frontsOf (x .tables .insides))) (book.rep (x .tables) .fronts) (book.rep (x .tables) .backs) (book.rep (x .tables) .held)
-seated-rep {x} g =
+pub held-at-rep : {x : Meaning} → Good x → Paired (indexOf (frontsOf (x .tables .insides))) (book.rep (x .tables) .fronts) (book.rep (x .tables) .backs) (book.rep (x .tables) .held)
+held-at-rep {x} g =
     record { few = kept g .held; fronts = kept g .fronts; backs = kept g .backs; is = ap indexOf (sym (fronts-of {b = book.rep (x .tables)} (x .tables) refl)) }
 
-go-step : {x : State} → Good x → (o : Option (List ℕ)) → x .waiting (x .next) ≡ o → Good (step feed x o)
+go-step : {x : Meaning} → Good x → (o : Option (List ℕ)) → x .waiting (x .next) ≡ o → Good (step feed x o)
 unfolding step
 go-step g none e = g
 go-step g (some m) e = good-step g e
 
-pub good-apply : (c : ℕ) {x : State} → Good x → Good (applyUpTo feed c x)
+pub good-apply : (c : ℕ) {x : Meaning} → Good x → Good (applyUpTo feed c x)
 unfolding applyUpTo
 good-apply zero g = g
 good-apply (suc c) {x} g = good-apply c (go-step g (x .waiting (x .next)) refl)
 
-module _ {x : State} (g : Good x) (s : List ℕ) (bytes : Bytes s) where
+module _ {x : Meaning} (g : Good x) (s : List ℕ) (bytes : Bytes s) where
   pub good-kept : Good (keptBy x s)
   unfolding keptIf
   good-kept = go (judge x s) refl
@@ -174,21 +175,21 @@ module _ {x : State} (g : Good x) (s : List ℕ) (bytes : Bytes s) where
       go none e = g
       go (some p) e = good-apply 256 (good-keep g p (overnight-judged feed .fits x s p e) (passes x s bytes e))
 
-pub good-all : (ss : List (List ℕ)) → AllBytes ss → {x : State} → Good x → Good (takeAll overnight x ss)
+pub good-all : (ss : List (List ℕ)) → AllBytes ss → {x : Meaning} → Good x → Good (takeAll overnight x ss)
 unfolding takeAll
 good-all [] all g = g
 good-all (s ∷ ss) all g = good-all ss (all .1) (good-one g s (all .0))
 
 -- a session that keeps the rule holds such a meaning, and nothing in it is left to apply
 pub record Stands (s : Session) : Type 0 where
-  pub state : State
+  pub state : Meaning
   pub good : Good state
   pub front : state .waiting (state .next) ≡ none
   pub same : s ≡ rep state
 
 pub stands : {s : Session} → Ruled s → Stands s
 stands r =
-    let x : State = takeAll overnight (opened feed (r .number)) (r .handed) in
+    let x : Meaning = takeAll overnight (opened feed (r .number)) (r .handed) in
     let settled : Rule overnight (r .number) ([] ++ accepted overnight (opened feed (r .number)) (r .handed)) x = takeAll-rule overnight (r .number) (overnight-judged feed) (r .handed) (opened-rule overnight (r .number)) in
     record {
       state = x;
@@ -200,6 +201,12 @@ stands r =
 pub meaning : {s : Session} (h : Stands s) → view s ≡ h .state
 meaning h = ap view (h .same) ∙ view-rep (h .good)
 
+pub ruled-rule : {s : Session} (r : Ruled s) → Rule overnight (r .number) (accepted overnight (opened feed (r .number)) (r .handed)) (view s)
+unfolding stands takeAll
+ruled-rule r =
+    subst (Rule overnight (r .number) (accepted overnight (opened feed (r .number)) (r .handed))) (sym (meaning (stands r)))
+    (takeAll-rule overnight (r .number) (overnight-judged feed) (r .handed) (opened-rule overnight (r .number)))
+
 pub ruled-means : {s : Session} (r : Ruled s) → view s ≡ takeAll overnight (opened feed (r .number)) (r .handed)
 unfolding stands
 ruled-means r = meaning (stands r)
@@ -209,7 +216,7 @@ pub all-more : (ss ts : List (List ℕ)) → AllBytes ss → AllBytes ts → All
 all-more [] ts a b = b
 all-more (s ∷ ss) ts a b = (a .0, all-more ss ts (a .1) b)
 
-pub take-more : (ss ts : List (List ℕ)) (x : State) → takeAll overnight x (ss ++ ts) ≡ takeAll overnight (takeAll overnight x ss) ts
+pub take-more : (ss ts : List (List ℕ)) (x : Meaning) → takeAll overnight x (ss ++ ts) ≡ takeAll overnight (takeAll overnight x ss) ts
 unfolding takeAll
 take-more [] ts x = refl
 take-more (s ∷ ss) ts x = take-more ss ts (takeOne overnight x s)
@@ -222,12 +229,8 @@ ruled-more {s} r ts bytes =
       small = r .small;
       handed = r .handed ++ ts;
       bytes = all-more (r .handed) ts (r .bytes) bytes;
-      given = ap rep (ap (λ (x : State). takeAll overnight x ts) (ruled-means r) ∙ sym (take-more (r .handed) ts (opened feed (r .number))));
+      given = ap rep (ap (λ (x : Meaning). takeAll overnight x ts) (ruled-means r) ∙ sym (take-more (r .handed) ts (opened feed (r .number))));
     }
-
-pub ruled-one : {s : Session} → Ruled s → (t : List ℕ) → Bytes t → Ruled (rep (takeOne overnight (view s) t))
-unfolding takeAll
-ruled-one r t bytes = ruled-more r (t ∷ []) (bytes, tt)
 
 pub ruled-open : (n : ℕ) → n ≤ 4294967295 → Ruled (rep (opened feed n))
 unfolding takeAll

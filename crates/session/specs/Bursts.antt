@@ -7,11 +7,11 @@ use Prim.Native.Nat.{ℕ, zero, suc, _+_, _-_, _*_, _≤_}
 use lib.Dec.{eqb, leb, ltb}
 use lib.ListN.{length}
 use Rattle.wire.specs.Number.{splice}
-use Rattle.merge.specs.Session.{takeAll, takeOne}
+use Rattle.merge.specs.State.{takeAll, takeOne}
 use Rattle.packet.specs.Header.{decided}
-use Rattle.taking.specs.Taking.{bytesAt, takeTests}
-use Rattle.taking.specs.Turns.{lengthAt}
-use Rattle.session.specs.Meaning.{State, overnight, rep}
+use Rattle.window_taking.specs.Taking.{takeTests}
+use Rattle.window_taking.specs.Turns.{framesOf, packetsIn}
+use Rattle.session.specs.Meaning.{Meaning, overnight, rep}
 use Rattle.session.specs.declared.packets.Answer.{Answer}
 use Rattle.session.specs.declared.packets.Answer.the-variants.{Applied, Refused}
 use Rattle.session.specs.declared.packets.Taken.{Taken}
@@ -22,61 +22,47 @@ use Rattle.session.specs.declared.packets.TakenAll.{TakenAll}
 -- ---- one packet
 
 -- the test that refuses it, 0 where none does
-abbrev pub refusalOf : State → List ℕ → ℕ
+abbrev pub refusalOf : Meaning → List ℕ → ℕ
 refusalOf x s = decided (takeTests x s) .0
 
 -- how many were applied: new next less old
-abbrev pub appliedOf : State → List ℕ → ℕ
+abbrev pub appliedOf : Meaning → List ℕ → ℕ
 appliedOf x s = takeOne overnight x s .next - x .next
 
 unfoldable pub answered : ℕ → ℕ → Answer
 answered applied refusal = cond (eqb refusal 0) (Applied applied) (Refused refusal)
 
-abbrev pub answerOf : State → List ℕ → Answer
+abbrev pub answerOf : Meaning → List ℕ → Answer
 answerOf x s = answered (appliedOf x s) (refusalOf x s)
 
-abbrev pub takenOf : State → List ℕ → Taken
+abbrev pub takenOf : Meaning → List ℕ → Taken
 takenOf x s = record { session = rep (takeOne overnight x s); answer = answerOf x s }
 
 -- ---- a burst
 
--- the whole packets of a burst from a place on, each behind its length: where each starts and how many bytes it has.
--- At most n are looked for
-unfoldable pub burstFrom : ℕ → ℕ → List ℕ → List (ℕ × ℕ)
-burstFrom zero at s = []
-burstFrom (suc n) at s =
-    cond (leb (at + 2 + lengthAt s at) (length s)) ((at + 2, lengthAt s at) ∷ burstFrom n (at + 2 + lengthAt s at) s) []
-
--- lent bytes as one packet, or as a burst
-abbrev pub framesOf : Bool → List ℕ → List (ℕ × ℕ)
-framesOf true s = (0, length s) ∷ []
-framesOf false s = burstFrom (length s) 0 s
-
-abbrev pub packetsOf : Bool → List ℕ → List (List ℕ)
-packetsOf single s = map (bytesAt s) (framesOf single s)
-
-abbrev pub packetsIn : List ℕ → List (List ℕ)
-packetsIn s = packetsOf false s
+-- the packets that a burst hands in: none where its list of answers is too short
+abbrev pub handedIn : List ℕ → ℕ → List (List ℕ)
+handedIn s room = cond (ltb room (4 * length (packetsIn s))) [] (packetsIn s)
 
 -- four numbers answer a packet: how many were applied, the refusal, 0 where there is none, then next and end
-abbrev pub rowWith : ℕ → ℕ → State → List ℕ
+abbrev pub rowWith : ℕ → ℕ → Meaning → List ℕ
 rowWith before refusal after = (after .next - before) ∷ refusal ∷ after .next ∷ after .end ∷ []
 
-abbrev pub rowOf : State → List ℕ → List ℕ
+abbrev pub rowOf : Meaning → List ℕ → List ℕ
 rowOf x s = rowWith (x .next) (refusalOf x s) (takeOne overnight x s)
 
-unfoldable pub rowsOf : State → List (List ℕ) → List ℕ
+unfoldable pub rowsOf : Meaning → List (List ℕ) → List ℕ
 rowsOf x [] = []
 rowsOf x (s ∷ ss) = rowOf x s ++ rowsOf (takeOne overnight x s) ss
 
 -- 11 exactly if the list is too short for the answers, nothing changed
-unfoldable pub burstOf : State → List (List ℕ) → ℕ → TakenAll
+unfoldable pub burstOf : Meaning → List (List ℕ) → ℕ → TakenAll
 burstOf x packets n =
     cond (ltb n (4 * length packets))
     (record { session = rep x; count = count.Refused 11 })
     (record { session = rep (takeAll overnight x packets); count = count.Packets (length packets) })
 
-unfoldable pub answersAfter : State → List (List ℕ) → List ℕ → List ℕ
+unfoldable pub answersAfter : Meaning → List (List ℕ) → List ℕ → List ℕ
 answersAfter x packets answers = cond (ltb (length answers) (4 * length packets)) answers (splice answers 0 (rowsOf x packets))
 
 -- the count, where the answers fit

@@ -2,4 +2,3 @@
 pub mod Meaning
 pub mod Bursts
 pub mod Asking
-pub mod Given

@@ -5,23 +5,26 @@ use mathlib.Core.Path.{_≡_}
 use mathlib.Core.List.{List, [], _∷_}
 use Prim.Native.Nat.{ℕ, _≤_}
 use Rattle.wire.specs.Number.{Bytes}
-use Rattle.merge.specs.Session as merge
-use Rattle.merge.specs.Session.{Channel, Feed, opened, takeAll, takeOne}
-use Rattle.book.specs.Applying.{applyOf}
+use Rattle.merge.specs.State as merge
+use Rattle.merge.specs.State.{Channel, Feed, opened, takeAll, takeOne}
+use Rattle.book.specs.Applying.{Rule, strict, applyUnder}
 use Rattle.book.specs.Tables as book
 use Rattle.book.specs.Tables.{Tables, fresh, frontsOf, idsOf}
 use Rattle.book.specs.declared.tables.Book.{Book}
-use Rattle.index.specs.Chains.{indexOf}
-use Rattle.taking.specs.Keeping.{waitingOf, windowFor}
-use Rattle.taking.specs.Taking.{channel}
+use Rattle.book_index.specs.Chains.{indexOf}
+use Rattle.window_taking.specs.Keeping.{waitingOf, windowFor}
+use Rattle.window_taking.specs.Taking.{channel}
 use Rattle.session.specs.declared.state.Session.{Session}
 
-abbrev pub State : Type 0
-State = merge.Session (List ℕ) Tables
+abbrev pub Meaning : Type 0
+Meaning = merge.State (List ℕ) Tables
 
--- the overnight feed: empty tables, and what a message does to them under its number
+-- the overnight feed under a rule for unlisted types: empty tables, and what a message does to them under its number
+abbrev pub feedUnder : Rule → Feed (List ℕ) Tables
+feedUnder rule = record { start = fresh; apply = applyUnder rule }
+
 abbrev pub feed : Feed (List ℕ) Tables
-feed = record { start = fresh; apply = applyOf }
+feed = feedUnder strict
 
 abbrev pub overnight : Channel (List ℕ) (List ℕ) Tables
 overnight = channel feed
@@ -43,7 +46,7 @@ bookIn s =
 
 -- the session with these tables, indexes, window, next and end
 abbrev pub sessionOf : Book → List ℕ → List ℕ → List ℕ → ℕ → ℕ → Session
-sessionOf b index seats window next end =
+sessionOf b index symbols window next end =
     record {
       orders = b .orders;
       keys = b .keys;
@@ -56,17 +59,17 @@ sessionOf b index seats window next end =
       end = end;
       faults = b .faults;
       index = index;
-      seats = seats;
+      symbols = symbols;
       code = b .code;
       window = window;
     }
 
 -- the one session that holds a meaning
-abbrev pub rep : State → Session
+abbrev pub rep : Meaning → Session
 rep x = sessionOf (book.rep (x .tables)) (indexOf (idsOf (x .tables .orders))) (indexOf (frontsOf (x .tables .insides))) (windowFor (x .waiting) (x .next)) (x .next) (x .end)
 
 -- the meaning of a session
-abbrev pub view : Session → State
+abbrev pub view : Session → Meaning
 view s = record { next = s .next; end = s .end; waiting = waitingOf (s .window) (s .next); tables = book.view (bookIn s) }
 
 -- byte strings

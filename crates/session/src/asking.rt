@@ -6,12 +6,14 @@ use book::asking::BestReply;
 use book::asking::InsideReply;
 use book::asking::OrderReply;
 use book::tables::Faults;
-use waiting::asking::Asked;
-use waiting::missing::Gap;
+use window::asking::Asked;
+use window::missing::Gap;
+use window::places::NUMBERS;
+use wire::least;
+use wire::most;
 ghost use mathlib.Core.Path.{_≡_};
-ghost use Prim.Native.Nat.{max, min, _+_, _≤_};
 ghost use lib.ListN.{length};
-ghost use Rattle.waiting.specs.Runs.{askedOf, bufferAfter};
+ghost use Rattle.window.specs.Runs.{askedOf, bufferAfter};
 ghost use Rattle.book.specs.Asking.{orderAsked, bestAsked, insideAsked};
 ghost use Rattle.session.specs.Meaning.{view, Ruled};
 ghost use Rattle.session.specs.Asking.{gapFrom, gapsOf};
@@ -71,19 +73,7 @@ pub fn requests(session: Session, buf: &mut [u8]) -> Asked
 {
     let next = session.next;
     let end = session.end;
-    waiting::asking::requests(&session.window, next, end, buf)
-}
-
-fn least(a: u64, b: u64) -> u64
-    ensures { λ r. ⌜ r ≡ min a b ⌝ }
-{
-    if a < b { a } else { b }
-}
-
-fn most(a: u64, b: u64) -> u64
-    ensures { λ r. ⌜ r ≡ max a b ⌝ }
-{
-    if a < b { b } else { a }
+    window::asking::requests(&session.window, next, end, buf)
 }
 
 // The first run of missing numbers from a number on; its count is 0 where there is none.
@@ -92,7 +82,7 @@ pub fn gap(session: Session, from: u64) -> Gap
     ensures { λ r. ⌜ r ≡ gapFrom (view session) from ⌝ }
 {
     let next = session.next;
-    let limit = least(session.end, next + 256);
+    let limit = least(session.end, next + NUMBERS);
     let first = least(most(from, next), limit);
-    waiting::missing::run(&session.window, first, limit)
+    window::missing::run(&session.window, first, limit)
 }

@@ -1,13 +1,15 @@
 // Taking packets: one, or a burst of them. Both go through one engine.
 use crate::running::run;
 use crate::state::Session;
+use window_taking::burst::whole;
 ghost use mathlib.Core.Path.{_≡_};
 ghost use mathlib.Core.Bool.{cond};
 ghost use Prim.Native.Nat.{_≤_};
 ghost use lib.Dec.{eqb};
 ghost use lib.ListN.{length};
 ghost use Rattle.session.specs.Meaning.{view, Ruled};
-ghost use Rattle.session.specs.Bursts.{takenOf, burstFrom, burstOf, countIf, answersAfter, answered, packetsIn};
+ghost use Rattle.window_taking.specs.Turns.{packetsIn};
+ghost use Rattle.session.specs.Bursts.{takenOf, burstOf, countIf, answersAfter, answered};
 
 pub enum Answer {
     // How many messages were applied.
@@ -53,26 +55,6 @@ pub fn take(session: Session, packet: &[u8]) -> Taken
     Taken {
         session: after,
         answer,
-    }
-}
-
-// How many whole packets a burst has.
-fn whole(s: &[u8]) -> usize
-    ensures { λ r. ⌜ r ≡ length (burstFrom (length (now (s .entry))) 0 (now (s .entry))) ⌝ }
-{
-    let mut at: usize = 0;
-    let mut n: usize = 0;
-    loop {
-        let left = s.len() - at;
-        if left < 2 {
-            return n;
-        }
-        let size = wire::u16_at(s, at) as usize;
-        if left - 2 < size {
-            return n;
-        }
-        at += 2 + size;
-        n += 1;
     }
 }
 

@@ -1,28 +1,33 @@
 // Parts: the engine. It holds the tables and the window, and writes nothing but what a packet or a
 // message changes.
 use crate::finding::found;
-use crate::finding::seated;
+use crate::finding::told;
 use crate::state::Session;
 use book::applying::recorded;
 use book::deciding::Effect;
+use book::deciding::decide;
 use book::deciding::seen_with;
 use book::lookup::back;
 use book::lookup::front;
-use book::lookup::spot;
+use book::lookup::place_found;
+use book::reading::inside_of;
+use book::reading::key_of;
+use book::reading::order_of;
+use book::reading::topic_of;
 use book::tables::no_order;
 use fields::digits;
-use message::table;
-use source::Source;
-use taking::turning::close;
-use taking::turning::follow;
-use taking::turning::start;
+use session_message::Source;
+use window::places::NUMBERS;
+use window_taking::burst::close;
+use window_taking::burst::follow;
+use window_taking::burst::start;
 ghost use mathlib.Core.Path.{_≡_};
 ghost use lib.ListN.{length, take};
 ghost use Rattle.wire.specs.Number.{splice};
-ghost use Rattle.merge.specs.Session.{takeAll};
+ghost use Rattle.merge.specs.State.{takeAll};
 ghost use Rattle.session.specs.Meaning.{overnight, rep, view, Ruled};
-ghost use Rattle.session.specs.Bursts.{packetsOf, rowsOf};
-ghost use Rattle.session.specs.Bursts.{Runs};
+ghost use Rattle.window_taking.specs.Turns.{packetsOf};
+ghost use Rattle.session.specs.Bursts.{rowsOf, Runs};
 
 // So many packets of the lent bytes, one after the other: each is kept, then all is applied that can
 // be. Where nothing waits, a packet's messages are applied straight from it.
@@ -39,15 +44,14 @@ pub fn run(
     ensures answers { λ r. ⌜ now (answers .exit) ≡ splice (now (answers .entry)) 0 (rowsOf (view session) (take count (packetsOf single (now (packets .entry))))) ⌝ }
 {
     let digits = digits::table();
-    let sizes = table::sizes();
     let mut next = session.next;
     let mut turn = start(next, session.end, count);
     let mut source = Source { left: 0, from: 0 };
-    let mut text = [0u8; 128];
+    let mut text = [0u8; Session::MOST];
     loop {
-        let place = (next % 256) as usize;
+        let place = (next % NUMBERS) as usize;
         let here = source;
-        let size = source::size(&session.window, packets, here, place);
+        let size = session_message::size(&session.window, packets, here, place);
         if size == 0 {
             close(answers, turn, next);
             if turn.left == 0 {
@@ -55,32 +59,37 @@ pub fn run(
                 session.end = turn.end;
                 return session;
             }
-            turn = follow(&mut session.window, packets, single, turn, next, &sizes);
+            turn = follow(&mut session.window, packets, single, turn, next);
             source = Source {
                 left: turn.direct,
                 from: turn.from,
             };
         } else {
-            source::fetch(&mut text, &session.window, here, place);
-            source::free(&mut session.window, here, place);
-            source = source::onward(here, size);
-            let bytes = &text[..size];
+            session_message::fetch(&mut text, &session.window, here, place);
+            session_message::free(&mut session.window, here, place);
+            source = session_message::onward(here, size);
+            let bytes = session_message::message(&text, packets, here, size);
             let number = next;
             next += 1;
-            let key = source::key(&digits, bytes, packets, here, size);
-            let topic = source::topic(bytes, packets, here, size);
+            let key = key_of(&digits, bytes);
             let live = session.live;
             let held = session.held;
             let order = found(&session.index, &session.keys, live, key);
-            let inside = seated(&session.seats, &session.fronts, &session.backs, held, topic);
-            let there = session.orders[spot(order)];
+            let inside = told(
+                bytes,
+                &session.symbols,
+                &session.fronts,
+                &session.backs,
+                held,
+            );
+            let there = session.orders[place_found(order)];
             let seen = seen_with(live, order, there, held, inside);
-            match source::effect(bytes, packets, here, size, key, seen) {
+            match decide(bytes, key, seen) {
                 Effect::Put => {
-                    session.orders[live] = source::order(bytes, packets, here, size, key);
+                    session.orders[live] = order_of(bytes, key);
                     session.keys[live] = key;
                     session.live = live + 1;
-                    index::put(&mut session.index, live, key);
+                    book_index::put(&mut session.index, live, key);
                 }
                 Effect::Replace(place, shares, price) => {
                     session.orders[place].shares = shares;
@@ -95,18 +104,19 @@ pub fn run(
                     session.orders[last] = no_order();
                     session.keys[last] = 0;
                     session.live = last;
-                    index::remove(&mut session.index, last, place, gone, moved);
+                    book_index::remove(&mut session.index, last, place, gone, moved);
                 }
                 Effect::Renew(place) => {
-                    session.insides[place] = source::inside(bytes, packets, here, size);
+                    session.insides[place] = inside_of(bytes);
                 }
                 Effect::Enter => {
-                    session.insides[held] = source::inside(bytes, packets, here, size);
+                    session.insides[held] = inside_of(bytes);
+                    let topic = topic_of(bytes);
                     let first = front(topic);
                     session.fronts[held] = first;
                     session.backs[held] = back(topic);
                     session.held = held + 1;
-                    index::put(&mut session.seats, held, first);
+                    book_index::put(&mut session.symbols, held, first);
                 }
                 Effect::Record(code) => session.code = code,
                 Effect::Unchanged => {}

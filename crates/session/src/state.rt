@@ -5,8 +5,9 @@ use book::tables::Inside;
 use book::tables::Order;
 use book::tables::no_inside;
 use book::tables::no_order;
+use window::places;
 ghost use mathlib.Core.Path.{_≡_};
-ghost use Rattle.merge.specs.Session.{opened};
+ghost use Rattle.merge.specs.State.{opened};
 ghost use Rattle.session.specs.Meaning.{bookIn, feed, rep, Ruled};
 
 // The tables as a book has them, each a field of its own so that it is written in place; the indexes
@@ -24,33 +25,33 @@ pub struct Session {
     pub end: u64,
     pub faults: Faults,
     pub index: [u16; Session::CELLS],
-    pub seats: [u16; Session::CELLS],
+    pub symbols: [u16; Session::CELLS],
     pub code: u8,
     pub window: [u8; Session::PLACES],
 }
 
 impl Session {
     // A packet's bytes, at least and at most.
-    pub const SHORTEST: usize = 12;
+    pub const SHORTEST: usize = packet::HEADER;
 
-    pub const LONGEST: usize = 1472;
+    pub const LONGEST: usize = packet::LONGEST;
 
     // A message's.
-    pub const LEAST: usize = 3;
+    pub const LEAST: usize = message::HEADER;
 
-    pub const MOST: usize = 128;
+    pub const MOST: usize = message::LONGEST;
 
-    pub const WINDOW: usize = 256;
+    pub const WINDOW: usize = places::NUMBERS as usize;
 
-    pub const ORDERS: usize = 256;
+    pub const ORDERS: usize = Book::ORDERS;
 
-    pub const INSIDES: usize = 64;
+    pub const INSIDES: usize = Book::INSIDES;
 
     // An index's cells: a follower for each place, and the heads of its chains.
-    pub const CELLS: usize = 765;
+    pub const CELLS: usize = book_index::CELLS;
 
     // The window's bytes: a longest message for each number.
-    pub const PLACES: usize = 32768;
+    pub const PLACES: usize = places::BYTES;
 
     pub fn open(number: u32) -> Self
         ensures session { λ r. ⌜ r ≡ rep (opened feed number) ⌝ }
@@ -76,7 +77,7 @@ impl Session {
             end: first,
             faults,
             index: [0u16; Self::CELLS],
-            seats: [0u16; Self::CELLS],
+            symbols: [0u16; Self::CELLS],
             code: 0,
             window: [0u8; Self::PLACES],
         }

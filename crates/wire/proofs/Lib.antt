@@ -4,4 +4,6 @@ pub mod Digits
 pub mod Layouts
 pub mod Place
 pub mod Splice
+pub mod Parts
+pub mod Copying
 mod Halves

@@ -64,20 +64,11 @@ pub fn text14_at(s: &[u8], at: usize) -> [u8; 14]
     requires { ⌜ at + 14 ≤ length (now s) ⌝ }
     ensures { λ r. ⌜ r ≡ part (now (s .entry)) at 14 ⌝ }
 {
-    [
-        s[at],
-        s[at + 1],
-        s[at + 2],
-        s[at + 3],
-        s[at + 4],
-        s[at + 5],
-        s[at + 6],
-        s[at + 7],
-        s[at + 8],
-        s[at + 9],
-        s[at + 10],
-        s[at + 11],
-        s[at + 12],
-        s[at + 13],
-    ]
+    let mut text = [0u8; 14];
+    let mut k: usize = 0;
+    while k < 14 {
+        text[k] = s[at + k];
+        k += 1;
+    }
+    text
 }

@@ -4,6 +4,12 @@ ghost use Prim.Native.Nat.{_+_, _≤_};
 ghost use lib.ListN.{length};
 ghost use Rattle.wire.specs.Number.{be, splice};
 
+// What a call that writes answers: how many bytes it put, or the refusal.
+pub enum Written {
+    Count(usize),
+    Refused(u8),
+}
+
 pub fn put_u8(buf: &mut [u8], at: usize, n: u8)
     requires { ⌜ at + 1 ≤ length (now buf) ⌝ }
     ensures { λ _. ⌜ now (buf .exit) ≡ splice (now (buf .entry)) at (be 1 n) ⌝ }

@@ -7,15 +7,12 @@ use Rattle.book.proofs.deciding.add.Statement.{statement}
 use Rattle.book.proofs.deciding.add.Tie as tie
 
 returns : tie.Need-returns
-returns c = c .added .ensures ∙ add-is _ _ (c .before .before .before .before .before .before .before .before .pre .value) (c .before .good-add .ensures) (c .before .before .before .before .before .before .u8-at .ensures) (c .before .before .before .before .before .u32-at .ensures) (c .before .before .before .before .text14-at .ensures) (c .before .before .before .u64-at .ensures) (c .before .before .u8-at2 .ensures)
+returns c = c .added .ensures ∙ add-is _ _ (c .before .before .before .before .before .before .pre .value) (c .before .before .is-value .ensures) (c .before .before .before .before .add .ensures) (c .before .add2 .ensures)
 
 pub add-spec : {M : Type 1} → statement M
 add-spec =
     tie.close
     (tie.spec
-    (λ c κs. search needs)
-    (λ c κs. search needs)
-    (λ c κs. search needs)
     (λ c κs. search needs)
     (λ c κs. search needs)
     (λ c κs. search needs)

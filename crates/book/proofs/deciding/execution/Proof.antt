@@ -1,22 +1,18 @@
 -- The effect of an Execution.
 -- Assumes nothing.
 use mathlib.Core.Path.{_∙_}
-use mathlib.Core.Path.{ap₂}
-use mathlib.Core.Bool.{_&&_}
 use Rattle.book.proofs.Arms.{execution-is}
 use borrow.Author.Needs.{needs}
 use Rattle.book.proofs.deciding.execution.Statement.{statement}
 use Rattle.book.proofs.deciding.execution.Tie as tie
 
 returns : tie.Need-returns
-returns c = c .executed .ensures ∙ execution-is _ _ (c .before .before .before .before .before .before .before .pre .value) (c .before .both .ensures ∙ ap₂ _&&_ (c .before .before .before .named .ensures) (c .before .before .good-quantity .ensures)) (c .before .before .before .before .before .u32-at .ensures) (c .before .before .before .before .u32-at2 .ensures)
+returns c = c .executed .ensures ∙ execution-is _ _ (c .before .before .before .before .before .pre .value) (c .before .before .is-value .ensures) (c .before .before .before .execution .ensures) (c .before .execution2 .ensures)
 
 pub execution-spec : {M : Type 1} → statement M
 execution-spec =
     tie.close
     (tie.spec
-    (λ c κs. search needs)
-    (λ c κs. search needs)
     (λ c κs. search needs)
     (λ c κs. search needs)
     (λ c κs. search needs)

@@ -7,13 +7,12 @@ use Rattle.book.proofs.deciding.priced.Statement.{statement}
 use Rattle.book.proofs.deciding.priced.Tie as tie
 
 returns : tie.Need-returns
-returns c = c .executed .ensures ∙ priced-is _ _ (c .before .before .before .before .before .before .pre .value) (c .before .good-update .ensures) (c .before .before .before .before .u32-at .ensures) (c .before .before .before .u32-at2 .ensures) (c .before .before .u64-at .ensures)
+returns c = c .executed .ensures ∙ priced-is _ _ (c .before .before .before .before .before .pre .value) (c .before .before .is-value .ensures) (c .before .before .before .priced .ensures) (c .before .priced2 .ensures)
 
 pub priced-spec : {M : Type 1} → statement M
 priced-spec =
     tie.close
     (tie.spec
-    (λ c κs. search needs)
     (λ c κs. search needs)
     (λ c κs. search needs)
     (λ c κs. search needs)

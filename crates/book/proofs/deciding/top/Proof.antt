@@ -7,15 +7,12 @@ use Rattle.book.proofs.deciding.top.Statement.{statement}
 use Rattle.book.proofs.deciding.top.Tie as tie
 
 returns : tie.Need-returns
-returns c = c .shown .ensures ∙ top-is _ _ (c .before .good-top .ensures) (c .before .before .before .before .before .text14-at .ensures) (c .before .before .before .before .u64-at .ensures) (c .before .before .before .u64-at2 .ensures) (c .before .before .u8-at .ensures)
+returns c = c .shown .ensures ∙ top-is _ _ (c .before .before .before .top .ensures) (c .before .top2 .ensures)
 
 pub top-spec : {M : Type 1} → statement M
 top-spec =
     tie.close
     (tie.spec
-    (λ c κs. search needs)
-    (λ c κs. search needs)
-    (λ c κs. search needs)
     (λ c κs. search needs)
     (λ c κs. search needs)
     (λ c κs. search needs)

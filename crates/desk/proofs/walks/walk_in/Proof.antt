@@ -1,17 +1,15 @@
 -- `desk::walks::walk_in` is safe and ends: a packet has at most 255 messages.
 -- Assumes nothing.
-use mathlib.Core.Path.{_≡_}
 use Prim.Native.Nat.{_≤_, _-_}
-use lib.ListN.{length}
 use borrow.Author.Needs.{needs}
 use Rattle.desk.proofs.walks.walk_in.Statement.{statement}
 use Rattle.desk.proofs.walks.walk_in.Tie as tie
 
 abbrev Inv-loop : tie.InvT-loop
-Inv-loop packet out₀ refusal end₀ k₀ out end k = (k ≤ 255) × (length out ≡ length out₀)
+Inv-loop packet refusal k₀ k = k ≤ 255
 
 abbrev μ-loop : tie.MeasureT-loop
-μ-loop packet out₀ refusal end₀ k₀ out end k = 255 - k
+μ-loop packet refusal k₀ k = 255 - k
 
 pub walk-in-spec : {M : Type 1} → statement M
 walk-in-spec =
@@ -23,7 +21,6 @@ walk-in-spec =
     (λ c κs. search needs)
     (λ c. search needs)
     (λ c. search needs)
-    (λ c. search needs)
     (λ c κs. search needs)
     (λ c. search needs)
     (λ c κs. search needs)
@@ -32,5 +29,4 @@ walk-in-spec =
     (λ c. search needs)
     (λ c. search needs)
     (λ c κs. search needs)
-    (λ c. search needs)
     (λ c. search needs))

@@ -1,4 +1,4 @@
--- `message::sizes` hands out the table that document 01 lists: antt computes all 256 entries and compares.
+-- `message::sizes` hands out the table that document 01 lists: antt computes all entries and compares.
 -- Assumes nothing.
 use mathlib.Core.Path.{refl}
 use Rattle.fields.specs.Table.{tabulate}

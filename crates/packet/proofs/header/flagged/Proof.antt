@@ -9,27 +9,27 @@ use Rattle.packet.proofs.header.flagged.Tie as tie
 
 returns : tie.Need-returns
 unfolding flagTests
-returns c = c .by .ensures ∙ simp (ne-eqb _ _ (c .before .if1 .taken))
+returns c = c .verdict .ensures ∙ simp (ne-eqb _ _ (c .before .if1 .taken))
 
 returns-2 : tie.Need-returns-2
 unfolding flagTests
-returns-2 c = c .by2 .ensures ∙ simp (eq-eqb _ _ (c .before .before .before .if1 .left), eq-eqb _ _ (c .before .before .if2 .taken), ne-eqb _ _ (c .before .if3 .taken))
+returns-2 c = c .verdict2 .ensures ∙ simp (eq-eqb _ _ (c .before .before .before .if1 .left), eq-eqb _ _ (c .before .before .if2 .taken), ne-eqb _ _ (c .before .if3 .taken))
 
 returns-3 : tie.Need-returns-3
 unfolding flagTests
-returns-3 c = c .by3 .ensures ∙ simp (eq-eqb _ _ (c .before .before .before .before .if1 .left), eq-eqb _ _ (c .before .before .before .if2 .taken), eq-eqb _ _ (c .before .before .if3 .left), ne-eqb _ _ (c .before .if4 .taken))
+returns-3 c = c .verdict3 .ensures ∙ simp (eq-eqb _ _ (c .before .before .before .before .if1 .left), eq-eqb _ _ (c .before .before .before .if2 .taken), eq-eqb _ _ (c .before .before .if3 .left), ne-eqb _ _ (c .before .if4 .taken))
 
 returns-4 : tie.Need-returns-4
 unfolding flagTests
-returns-4 c = c .by4 .ensures ∙ simp (eq-eqb _ _ (c .before .before .before .before .if1 .left), eq-eqb _ _ (c .before .before .before .if2 .taken), eq-eqb _ _ (c .before .before .if3 .left), eq-eqb _ _ (c .before .if4 .left))
+returns-4 c = c .verdict4 .ensures ∙ simp (eq-eqb _ _ (c .before .before .before .before .if1 .left), eq-eqb _ _ (c .before .before .before .if2 .taken), eq-eqb _ _ (c .before .before .if3 .left), eq-eqb _ _ (c .before .if4 .left))
 
 returns-5 : tie.Need-returns-5
 unfolding flagTests
-returns-5 c = c .by5 .ensures ∙ simp (eq-eqb _ _ (c .before .before .before .if1 .left), ne-eqb _ _ (c .before .before .if2 .left), eq-eqb _ _ (c .before .if5 .taken))
+returns-5 c = c .verdict5 .ensures ∙ simp (eq-eqb _ _ (c .before .before .before .if1 .left), ne-eqb _ _ (c .before .before .if2 .left), eq-eqb _ _ (c .before .if5 .taken))
 
 returns-6 : tie.Need-returns-6
 unfolding flagTests
-returns-6 c = c .by6 .ensures ∙ simp (eq-eqb _ _ (c .before .before .before .if1 .left), ne-eqb _ _ (c .before .before .if2 .left), ne-eqb _ _ (c .before .if5 .left))
+returns-6 c = c .verdict6 .ensures ∙ simp (eq-eqb _ _ (c .before .before .before .if1 .left), ne-eqb _ _ (c .before .before .if2 .left), ne-eqb _ _ (c .before .if5 .left))
 
 pub flagged-spec : {M : Type 1} → statement M
 flagged-spec =

@@ -7,13 +7,13 @@ use Rattle.packet.proofs.header.tested.Statement.{statement}
 use Rattle.packet.proofs.header.tested.Tie as tie
 
 returns : tie.Need-returns
-returns c = c .by .ensures ∙ few _ (c .before .if1 .taken)
+returns c = c .verdict .ensures ∙ few _ (c .before .if1 .taken)
 
 returns-2 : tie.Need-returns-2
-returns-2 c = c .by2 .ensures ∙ many _ (c .before .before .if1 .left) (c .before .if2 .taken)
+returns-2 c = c .verdict2 .ensures ∙ many _ (c .before .before .if1 .left) (c .before .if2 .taken)
 
 returns-3 : tie.Need-returns-3
-returns-3 c = c .by3 .ensures ∙ another _ (c .before .before .before .before .before .if1 .left) (c .before .before .before .before .if2 .left) (c .before .before .before .fields .ensures) (c .before .if3 .taken)
+returns-3 c = c .verdict3 .ensures ∙ another _ (c .before .before .before .before .before .if1 .left) (c .before .before .before .before .if2 .left) (c .before .before .before .fields .ensures) (c .before .if3 .taken)
 
 returns-4 : tie.Need-returns-4
 returns-4 c = c .flagged .ensures ∙ flags _ (c .before .before .before .before .before .if1 .left) (c .before .before .before .before .if2 .left) (c .before .before .before .fields .ensures) (c .before .if3 .left)

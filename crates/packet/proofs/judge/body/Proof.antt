@@ -7,13 +7,13 @@ use Rattle.packet.proofs.judge.body.Statement.{statement}
 use Rattle.packet.proofs.judge.body.Tie as tie
 
 returns : tie.Need-returns
-returns c = c .by2 .ensures ∙ body-past _ _ (c .before .before .enum-told .given .1) (c .before .if1 .taken)
+returns c = c .verdict2 .ensures ∙ body-past _ _ (c .before .before .enum-told .given .1) (c .before .if1 .taken)
 
 returns-2 : tie.Need-returns-2
-returns-2 c = c .by .ensures ∙ body-broken _ _ (c .before .before .walked .given .1)
+returns-2 c = c .verdict .ensures ∙ body-broken _ _ (c .before .before .walked .given .1)
 
 returns-3 : tie.Need-returns-3
-returns-3 c = c .by3 .ensures ∙ body-good _ _ (c .before .before .enum-told .given .1) (c .before .if1 .left)
+returns-3 c = c .verdict3 .ensures ∙ body-good _ _ (c .before .before .enum-told .given .1) (c .before .if1 .left)
 
 pub body-spec : {M : Type 1} → statement M
 body-spec =

@@ -11,22 +11,22 @@ use Rattle.packet.proofs.walk.walk.Statement.{statement}
 use Rattle.packet.proofs.walk.walk.Tie as tie
 
 abbrev Inv-loop : tie.InvT-loop
-Inv-loop s sizes messages at₀ left₀ at left = (at ≤ length s) × ((left < 256) × (walkFrom messages 12 s ≡ walkFrom left at s))
+Inv-loop s messages sizes at₀ left₀ at left = (at ≤ length s) × ((left < 256) × (walkFrom messages 12 s ≡ walkFrom left at s))
 
 abbrev μ-loop : tie.MeasureT-loop
-μ-loop s sizes messages at₀ left₀ at left = left
+μ-loop s messages sizes at₀ left₀ at left = left
 
 loop-holds : tie.Need-loop-holds Inv-loop μ-loop
 loop-holds c = search needs
 
-step-requires : tie.Need-step-requires Inv-loop μ-loop
-step-requires c κs = search needs
+step-by-requires : tie.Need-step-by-requires Inv-loop μ-loop
+step-by-requires c κs = (search needs, c .before .before .before .sizes .ensures)
 
 returns : tie.Need-returns Inv-loop μ-loop
-returns c = walk-stops _ _ _ (c .before .step .ensures) _ (c .before .before .loop-test .taken) (c .if1 .taken) ∙ sym (c .before .before .before .loop .inv .1 .1)
+returns c = walk-stops _ _ _ (c .before .step-by .ensures) _ (c .before .before .before .loop-test .taken) (c .if1 .taken) ∙ sym (c .before .before .before .before .loop .inv .1 .1)
 
 add-at : tie.Need-add-at Inv-loop μ-loop
-add-at c = omega (arith, step-within _ _ _ (c .before .step .ensures) (c .if1 .left) .within)
+add-at c = omega (arith, step-within _ _ _ (c .before .step-by .ensures) (c .if1 .left) .within)
 
 sub-left : tie.Need-sub-left Inv-loop μ-loop
 sub-left c = search needs
@@ -36,8 +36,8 @@ loop-less c = search needs
 
 loop-again : tie.Need-loop-again Inv-loop μ-loop
 loop-again c = (
-  step-within _ _ _ (c .before .step .ensures) (c .if1 .left) .within,
-  (omega arith, c .before .before .before .loop .inv .1 .1 ∙ walk-goes _ _ _ (c .before .step .ensures) _ (c .before .before .loop-test .taken) (c .if1 .left)),
+  step-within _ _ _ (c .before .step-by .ensures) (c .if1 .left) .within,
+  (omega arith, c .before .before .before .before .loop .inv .1 .1 ∙ walk-goes _ _ _ (c .before .step-by .ensures) _ (c .before .before .before .loop-test .taken) (c .if1 .left)),
 )
 
 returns-2 : tie.Need-returns-2 Inv-loop μ-loop
@@ -52,8 +52,9 @@ walk-spec =
     (tie.spec
     Inv-loop
     μ-loop
+    (λ c κs. search needs)
     loop-holds
-    step-requires
+    step-by-requires
     returns
     add-at
     sub-left

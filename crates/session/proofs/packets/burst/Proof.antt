@@ -1,19 +1,21 @@
 -- A burst by its count of packets.
 -- Assumes nothing.
+mod Points
 use mathlib.Core.Path.{refl}
 use mathlib.Core.Bool.{false}
 use native.Mathlib.Omega.{arith}
 use Rattle.session.proofs.Calls.{burst-is, burst-runs, rows-are, rule-packets}
 use Rattle.session.proofs.Runs.{bytes-of}
 use borrow.Author.Needs.{needs}
+use Rattle.session.proofs.packets.burst.Proof.Points as to
 use Rattle.session.proofs.packets.burst.Statement.{statement}
 use Rattle.session.proofs.packets.burst.Tie as tie
 
 run-requires : tie.Need-run-requires
-run-requires c κs = (c .before .before .before .before .before .pre, burst-runs (c .before .before .before .before .before .args .session) (c .before .before .before .before .before .args .packets .now) (c .before .before .before .before .before .args .answers .now) (c .before .before .whole .ensures) refl (c .before .due-of .ensures) (omega arith))
+run-requires c κs = (to.entry-from-run-arg c .pre, burst-runs (to.entry-from-run-arg c .args .session) (to.entry-from-run-arg c .args .packets .now) (to.entry-from-run-arg c .args .answers .now) (to.whole-from-run-arg c .whole .ensures) refl (to.due-of-from-run-arg c .due-of .ensures) (omega arith))
 
 returns : tie.Need-returns
-returns c = (burst-is (c .before .before .before .before .before .before .before .before .before .args .session) (c .before .before .before .before .before .before .before .before .before .args .packets .now) (c .before .before .before .before .before .before .before .before .before .args .answers .now) (c .before .before .before .before .before .before .whole .ensures) refl (c .before .before .before .before .before .due-of .ensures) (c .before .before .before .run .ensures .0) (c .count-of .ensures), (rows-are (c .before .before .before .before .before .before .before .before .before .args .session) (c .before .before .before .before .before .before .before .before .before .args .packets .now) (c .before .before .before .before .before .before .before .before .before .args .answers .now) (c .before .before .before .before .before .before .whole .ensures) refl (c .before .before .before .before .before .due-of .ensures) (c .before .before .before .run .ensures .1), rule-packets (c .before .before .before .before .before .before .before .before .before .pre) false (c .before .before .before .before .before .before .before .before .before .args .packets .now) (c .before .before .before .before .before .due-of .result) (bytes-of (c .before .before .before .before .before .before .before .before .before .args .packets .now) (λ i. omega (arith, c .before .before .before .before .before .before .before .before .shared-slice-known .given i))) (c .before .before .before .run .ensures .0)))
+returns c = (burst-is (to.entry-from-count-of c .args .session) (to.entry-from-count-of c .args .packets .now) (to.entry-from-count-of c .args .answers .now) (to.whole-from-count-of c .whole .ensures) refl (to.due-of-from-count-of c .due-of .ensures) (to.run-from-count-of c .run .ensures .0) (c .count-of .ensures), (rows-are (to.entry-from-count-of c .args .session) (to.entry-from-count-of c .args .packets .now) (to.entry-from-count-of c .args .answers .now) (to.whole-from-count-of c .whole .ensures) refl (to.due-of-from-count-of c .due-of .ensures) (to.run-from-count-of c .run .ensures .1), rule-packets (to.entry-from-count-of c .pre) false (to.entry-from-count-of c .args .packets .now) (to.due-of-from-count-of c .due-of .result) (bytes-of (to.entry-from-count-of c .args .packets .now) (λ i. omega (arith, to.shared-slice-known-from-count-of c .shared-slice-known .given i))) (to.run-from-count-of c .run .ensures .0)))
 
 pub burst-spec : {M : Type 1} → statement M
 burst-spec =

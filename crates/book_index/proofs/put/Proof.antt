@@ -1,0 +1,24 @@
+-- The two stores put the place before the chain's first.
+-- Assumes nothing.
+use Rattle.book_index.proofs.Moves.{put-is}
+use borrow.Author.Needs.{needs}
+use Rattle.book_index.proofs.put.Statement.{statement}
+use Rattle.book_index.proofs.put.Tie as tie
+
+returns : tie.Need-returns
+returns c = λ ids o. put-is _ ids _ _ _ o (c .before .head .ensures .0)
+
+pub put-spec : {M : Type 1} → statement M
+put-spec =
+    tie.close
+    (tie.spec
+    (λ c κs. search needs)
+    (λ c. search needs)
+    (λ c. search needs)
+    (λ c. search needs)
+    (λ c. search needs)
+    (λ c. search needs)
+    (λ c. search needs)
+    (λ c. search needs)
+    (λ c. search needs)
+    returns)

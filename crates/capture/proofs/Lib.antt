@@ -1,2 +1,0 @@
--- Laws of `capture`'s definitions.
-mod Heads

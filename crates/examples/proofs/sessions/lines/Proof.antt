@@ -1,0 +1,32 @@
+-- `examples::sessions::lines` keeps the session's rule, and ends: each line starts behind the one before it.
+-- Assumes nothing.
+use Prim.Native.Nat.{_-_}
+use lib.ListN.{length}
+use Rattle.session.specs.Meaning.{Ruled}
+use borrow.Author.Needs.{needs}
+use Rattle.examples.proofs.sessions.lines.Statement.{statement}
+use Rattle.examples.proofs.sessions.lines.Tie as tie
+
+abbrev Inv-loop : tie.InvT-loop
+Inv-loop table session₀ from₀ session from = Ruled session
+
+abbrev μ-loop : tie.MeasureT-loop
+μ-loop table session₀ from₀ session from = length table - from
+
+pub lines-spec : {M : Type 1} → statement M
+lines-spec =
+    tie.close
+    (tie.spec
+    Inv-loop
+    μ-loop
+    (λ c κs. search needs)
+    (λ c. c .open .ensures .1)
+    (λ c κs. search needs)
+    (λ c. search needs)
+    (λ c. search needs)
+    (λ c. search needs)
+    (λ c κs. search needs)
+    (λ c. search needs)
+    (λ c. search needs)
+    (λ c. search needs)
+    (λ c. search needs))

@@ -1,0 +1,2 @@
+-- What the lines of the tables hold.
+pub mod Lines

@@ -1,0 +1,43 @@
+// A first session: opened at 10, a heartbeat that says 12, and the request for what is missing.
+use session::asking;
+use session::packets;
+use session::packets::Answer;
+use session::state::Session;
+use window::asking::Asked;
+
+fn put(text: &[u8]) {
+    io::write_all(libc::STDOUT_FILENO, text);
+}
+
+fn line(label: &[u8], n: u64) {
+    put(label);
+    io::print_decimal(libc::STDOUT_FILENO, n);
+    put(b"\n");
+}
+
+fn answered(answer: Answer) {
+    match answer {
+        Answer::Applied(count) => line(b"applied ", count),
+        Answer::Refused(number) => line(b"refused ", number as u64),
+    }
+}
+
+fn asked(asked: Asked) {
+    match asked {
+        Asked::Count(count) => line(b"requests ", count as u64),
+        Asked::Refused(number) => line(b"refused ", number as u64),
+    }
+}
+
+fn main() {
+    let session = Session::open(10);
+    let heartbeat = [0u8, 12, 0, 0, 0, 12, 1, 0, 0, 0, 0, 0];
+    let taken = packets::take(session, &heartbeat);
+    let answer = taken.answer;
+    answered(answer);
+    let after = taken.session;
+    line(b"next ", asking::next(after));
+    line(b"end ", asking::end(after));
+    let mut requests = [0u8; 12];
+    asked(asking::requests(after, &mut requests));
+}

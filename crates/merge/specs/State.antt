@@ -1,0 +1,99 @@
+-- Document 01, "Taking a packet", from where the packet's messages are known: a session and what a packet does to it, over any kind of message and any tables.
+-- Assumes nothing.
+use Prim.Native.Nat.{ℕ, zero, suc, _+_, _-_, max}
+use mathlib.Core.Bool.{cond}
+use mathlib.Core.List.{List, [], _∷_}
+use mathlib.Core.Option.{Option, none, some}
+use lib.Dec.{leb, ltb, eqb}
+use lib.ListN.{length, getElem?}
+
+-- A feed: its tables when nothing is applied yet, and what a message does to them under its number.
+pub record Feed (Msg Table : Type 0) : Type 0 where
+  pub start : Table
+  pub apply : Table → ℕ → Msg → Table
+
+-- A packet: its first message has the number first, each further one the number after.
+pub record Packet (Msg : Type 0) : Type 0 where
+  pub first : ℕ
+  pub messages : List Msg
+
+-- A session: for each number the message that waits under it, if one does. The tables hold all else that applying changes.
+pub record State (Msg Table : Type 0) : Type 0 where
+  pub next : ℕ
+  pub end : ℕ
+  pub waiting : ℕ → Option Msg
+  pub tables : Table
+
+module _ {Msg : Type 0} where
+  abbrev pub packet : ℕ → List Msg → Packet Msg
+  packet n ms = record { first = n; messages = ms }
+
+  -- A heartbeat has no message; its SeqNum stands where a first number would.
+  abbrev pub heartbeat : ℕ → Packet Msg
+  heartbeat n = packet n []
+
+  -- A packet of one message.
+  abbrev pub single : ℕ → Msg → Packet Msg
+  single k m = packet k (m ∷ [])
+
+  -- The end that a packet makes known: one above its last number, and of a heartbeat its SeqNum.
+  abbrev pub endOf : Packet Msg → ℕ
+  endOf p = p .first + length (p .messages)
+
+  -- The message that a packet has under number k.
+  unfoldable pub copyOf : Packet Msg → ℕ → Option Msg
+  copyOf p k = cond (leb (p .first) k) (getElem? (p .messages) (k - p .first)) none
+
+  -- The first of two copies that is there.
+  abbrev pub firstThere : Option Msg → Option Msg → Option Msg
+  firstThere none second = second
+  firstThere (some m) second = some m
+
+module _ {Msg Table : Type 0} where
+  -- The fresh session for opening number s.
+  unfoldable pub opened : Feed Msg Table → ℕ → State Msg Table
+  opened feed s = record { next = s; end = s; waiting = λ k. none; tables = feed .start }
+
+  -- What waits under k once p is kept: below next nothing new, and a copy that waits already stays.
+  unfoldable pub keptAt : State Msg Table → Packet Msg → ℕ → Option Msg
+  keptAt x p k = cond (ltb k (x .next)) (x .waiting k) (firstThere (x .waiting k) (copyOf p k))
+
+  -- Keeping a packet: its end counts if it is larger, its messages wait, nothing is applied.
+  unfoldable pub keep : State Msg Table → Packet Msg → State Msg Table
+  keep x p = record { next = x .next; end = max (x .end) (endOf p); waiting = keptAt x p; tables = x .tables }
+
+  -- What waits under k once the message at next is applied: its own place is free.
+  unfoldable pub freedAt : State Msg Table → ℕ → Option Msg
+  freedAt x k = cond (eqb k (x .next)) none (x .waiting k)
+
+  -- One step of applying, by what waits at next.
+  unfoldable pub step : Feed Msg Table → State Msg Table → Option Msg → State Msg Table
+  step feed x none = x
+  step feed x (some m) =
+      record { next = x .next + 1; end = x .end; waiting = freedAt x; tables = feed .apply (x .tables) (x .next) m }
+
+  -- Applying from the front, c steps or as many as there are messages for.
+  unfoldable pub applyUpTo : Feed Msg Table → ℕ → State Msg Table → State Msg Table
+  applyUpTo feed zero x = x
+  applyUpTo feed (suc c) x = applyUpTo feed c (step feed x (x .waiting (x .next)))
+
+-- A channel: a feed, the size of the waiting window, and a judge. Of what a host hands in, the judge answers the packet in it, or none if it refuses.
+pub record Channel (Handed Msg Table : Type 0) : Type 0 where
+  pub feed : Feed Msg Table
+  pub window : ℕ
+  pub judge : State Msg Table → Handed → Option (Packet Msg)
+
+module _ {Handed Msg Table : Type 0} where
+  -- The session after the judge's answer: as it was, or with the packet kept and all applied that then can be.
+  unfoldable pub takeIf : Channel Handed Msg Table → State Msg Table → Option (Packet Msg) → State Msg Table
+  takeIf ch x none = x
+  takeIf ch x (some p) = applyUpTo (ch .feed) (ch .window) (keep x p)
+
+  -- One call.
+  unfoldable pub takeOne : Channel Handed Msg Table → State Msg Table → Handed → State Msg Table
+  takeOne ch x b = takeIf ch x (ch .judge x b)
+
+  -- Calls in a row.
+  unfoldable pub takeAll : Channel Handed Msg Table → State Msg Table → List Handed → State Msg Table
+  takeAll ch x [] = x
+  takeAll ch x (b ∷ bs) = takeAll ch (takeOne ch x b) bs

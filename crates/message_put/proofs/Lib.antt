@@ -1,0 +1,2 @@
+-- Laws that the proofs of `message_put` cite.
+pub mod ByKind

@@ -1,0 +1,27 @@
+-- The last five fields of an Order Add, put one behind the other, are the row put.
+-- Assumes nothing.
+use Rattle.wire.proofs.Layouts.{puts-row, then}
+use borrow.Author.Needs.{needs}
+use Rattle.message_put.proofs.put.add_back.Statement.{statement}
+use Rattle.message_put.proofs.put.add_back.Tie as tie
+
+returns : tie.Need-returns
+returns c = puts-row _ _ _ _ (search needs) (search needs) (then _ _ (then _ _ (then _ _ (then _ _ (c .before .before .before .before .before .before .before .before .before .before .before .before .before .before .before .before .before .before .before .put-text .ensures) (c .before .before .before .before .before .before .before .before .before .before .before .before .before .before .before .put-u64 .ensures)) (c .before .before .before .before .before .before .before .before .before .before .put-text2 .ensures)) (c .before .before .before .before .before .before .put-u8 .ensures)) (c .before .before .put-u16 .ensures))
+
+pub add-back-spec : {M : Type 1} → statement M
+add-back-spec =
+    tie.close
+    (tie.spec
+    (λ c. search needs)
+    (λ c κs. search needs)
+    (λ c. search needs)
+    (λ c κs. search needs)
+    (λ c. search needs)
+    (λ c. search needs)
+    (λ c κs. search needs)
+    (λ c. search needs)
+    (λ c κs. search needs)
+    (λ c. search needs)
+    (λ c κs. search needs)
+    (λ c. search needs)
+    returns)

@@ -1,0 +1,24 @@
+-- The first four fields of an Order Add, put one behind the other, are the row put.
+-- Assumes nothing.
+use Rattle.wire.proofs.Layouts.{puts-row, then}
+use borrow.Author.Needs.{needs}
+use Rattle.message_put.proofs.put.add_front.Statement.{statement}
+use Rattle.message_put.proofs.put.add_front.Tie as tie
+
+returns : tie.Need-returns
+returns c = puts-row _ _ _ _ (search needs) (search needs) (then _ _ (then _ _ (then _ _ (c .before .before .before .before .before .before .before .before .before .before .before .before .before .before .before .put-u32 .ensures) (c .before .before .before .before .before .before .before .before .before .before .put-text .ensures)) (c .before .before .before .before .before .before .put-u8 .ensures)) (c .before .before .put-u322 .ensures))
+
+pub add-front-spec : {M : Type 1} → statement M
+add-front-spec =
+    tie.close
+    (tie.spec
+    (λ c κs. search needs)
+    (λ c. search needs)
+    (λ c. search needs)
+    (λ c κs. search needs)
+    (λ c. search needs)
+    (λ c κs. search needs)
+    (λ c. search needs)
+    (λ c κs. search needs)
+    (λ c. search needs)
+    returns)

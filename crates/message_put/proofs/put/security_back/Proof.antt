@@ -1,0 +1,23 @@
+-- The last four fields of a Security, put one behind the other, are the row put.
+-- Assumes nothing.
+use Rattle.wire.proofs.Layouts.{puts-row, then}
+use borrow.Author.Needs.{needs}
+use Rattle.message_put.proofs.put.security_back.Statement.{statement}
+use Rattle.message_put.proofs.put.security_back.Tie as tie
+
+returns : tie.Need-returns
+returns c = puts-row _ _ _ _ tt (search needs) (then _ _ (then _ _ (then _ _ (c .before .before .before .before .before .before .before .before .before .before .before .before .before .before .put-u16 .ensures) (c .before .before .before .before .before .before .before .before .before .before .put-u8 .ensures)) (c .before .before .before .before .before .before .put-u82 .ensures)) (c .before .before .put-u83 .ensures))
+
+pub security-back-spec : {M : Type 1} → statement M
+security-back-spec =
+    tie.close
+    (tie.spec
+    (λ c κs. search needs)
+    (λ c. search needs)
+    (λ c κs. search needs)
+    (λ c. search needs)
+    (λ c κs. search needs)
+    (λ c. search needs)
+    (λ c κs. search needs)
+    (λ c. search needs)
+    returns)

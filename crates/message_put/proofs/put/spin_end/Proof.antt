@@ -1,0 +1,23 @@
+-- The fields of an End of Spin, put one behind the other, are the row put.
+-- Assumes nothing.
+use Rattle.wire.proofs.Layouts.{puts-row, then}
+use borrow.Author.Needs.{needs}
+use Rattle.message_put.proofs.put.spin_end.Statement.{statement}
+use Rattle.message_put.proofs.put.spin_end.Tie as tie
+
+returns : tie.Need-returns
+returns c = puts-row _ _ _ _ tt (search needs) (then _ _ (then _ _ (then _ _ (c .before .before .before .before .before .before .before .before .before .before .before .before .before .before .put-u8 .ensures) (c .before .before .before .before .before .before .before .before .before .before .put-u32 .ensures)) (c .before .before .before .before .before .before .put-u64 .ensures)) (c .before .before .put-u322 .ensures))
+
+pub spin-end-spec : {M : Type 1} → statement M
+spin-end-spec =
+    tie.close
+    (tie.spec
+    (λ c κs. search needs)
+    (λ c. search needs)
+    (λ c κs. search needs)
+    (λ c. search needs)
+    (λ c κs. search needs)
+    (λ c. search needs)
+    (λ c κs. search needs)
+    (λ c. search needs)
+    returns)

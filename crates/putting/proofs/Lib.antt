@@ -1,2 +1,0 @@
--- Laws that the proofs of `putting` cite.
-pub mod ByKind

@@ -1,0 +1,2 @@
+-- Laws of the records' definitions.
+mod Heads

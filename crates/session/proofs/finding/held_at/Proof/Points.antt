@@ -1,0 +1,45 @@
+-- The points of `held-at` that its proof speaks of. Written by tools/points.py.
+-- Assumes nothing.
+use Rattle.session.proofs.finding.held_at.Tie as tie
+
+abbrev pub entry-from-then1 : tie.Then1 → tie.Start
+entry-from-then1 c = c .before .before .before
+
+abbrev pub entry-from-else1 : tie.Else1 → tie.Start
+entry-from-else1 c = c .before .before .before
+
+abbrev pub entry-from-then2 : tie.Then2 → tie.Start
+entry-from-then2 c = entry-from-else1 (c .before .before)
+
+abbrev pub entry-from-else2 : tie.Else2 → tie.Start
+entry-from-else2 c = entry-from-else1 (c .before .before)
+
+abbrev pub front-from-then1 : tie.Then1 → tie.After-front
+front-from-then1 c = c .before .before
+
+abbrev pub front-from-then2 : tie.Then2 → tie.After-front
+front-from-then2 c = c .before .before .before .before
+
+abbrev pub front-from-else2 : tie.Else2 → tie.After-front
+front-from-else2 c = c .before .before .before .before
+
+abbrev pub back-from-then1 : tie.Then1 → tie.After-back
+back-from-then1 c = c .before
+
+abbrev pub back-from-then2 : tie.Then2 → tie.After-back
+back-from-then2 c = c .before .before .before
+
+abbrev pub back-from-else2 : tie.Else2 → tie.After-back
+back-from-else2 c = c .before .before .before
+
+abbrev pub else1-from-then2 : tie.Then2 → tie.Else1
+else1-from-then2 c = c .before .before
+
+abbrev pub else1-from-else2 : tie.Else2 → tie.Else1
+else1-from-else2 c = c .before .before
+
+abbrev pub pair-from-then2 : tie.Then2 → tie.After-pair
+pair-from-then2 c = c .before
+
+abbrev pub pair-from-else2 : tie.Else2 → tie.After-pair
+pair-from-else2 c = c .before

@@ -1,0 +1,2 @@
+-- Laws of `session_message`'s definitions.
+pub mod Choices

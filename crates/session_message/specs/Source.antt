@@ -1,0 +1,44 @@
+-- Where the message at next lies: straight in the lent bytes, while some are left there, or else in its place in the window.
+-- Assumes nothing.
+use mathlib.Core.Path.{_≡_}
+use mathlib.Core.Bool.{Bool, cond}
+use mathlib.Core.List.{List}
+use Prim.Native.Nat.{ℕ, _+_, _-_, _≤_}
+use lib.Dec.{eqb}
+use lib.ListN.{length, take}
+use Rattle.wire.specs.Number.{num, part, splice}
+use Rattle.window.specs.Window.{sizeAt, startOf, zeros}
+use Rattle.session_message.specs.declared.Source.{Source}
+
+-- none is left in the packet: the message lies in the window
+abbrev pub inWindow : Source → Bool
+inWindow x = eqb (x .left) 0
+
+-- its size, 0 where there is none
+unfoldable pub sizeIn : List ℕ → List ℕ → Source → ℕ → ℕ
+sizeIn window s x place = cond (inWindow x) (sizeAt window place) (num (part s (x .from) 2))
+
+-- a place of the window is copied out and made free; the packet is left alone
+unfoldable pub textAfter : List ℕ → List ℕ → Source → ℕ → List ℕ
+textAfter window text x place = cond (inWindow x) (part window (startOf place) 128) text
+
+unfoldable pub windowAfter : List ℕ → Source → ℕ → List ℕ
+windowAfter window x place = cond (inWindow x) (splice window (startOf place) (zeros 128)) window
+
+-- the message: what was copied out, or what the packet has
+unfoldable pub messageAt : List ℕ → List ℕ → Source → ℕ → List ℕ
+messageAt text s x size = cond (inWindow x) (take size text) (part s (x .from) size)
+
+-- past a message
+unfoldable pub onwardOf : Source → ℕ → Source
+onwardOf x size = cond (inWindow x) x (record { left = x .left - 1; from = x .from + size })
+
+-- what is read lies in the bytes
+pub record Begins (s : List ℕ) (x : Source) : Type 0 where
+  pub within : (x .left ≡ 0 → ⊥) → x .from + 2 ≤ length s
+
+pub record Goes (x : Source) (size : ℕ) : Type 0 where
+  pub within : (x .left ≡ 0 → ⊥) → x .from + size ≤ 18446744073709551615
+
+pub record Lies (s : List ℕ) (x : Source) (size : ℕ) : Type 0 where
+  pub within : (x .left ≡ 0 → ⊥) → x .from + size ≤ length s

@@ -1,3 +1,0 @@
--- Laws of `source`'s definitions.
-pub mod Choices
-pub mod Copying

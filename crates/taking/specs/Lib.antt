@@ -1,4 +1,0 @@
--- What `taking` promises: which packets are taken, what keeping one does to the window, and demand 3 for the overnight feed.
-pub mod Taking
-pub mod Keeping
-pub mod Turns

@@ -1,7 +1,0 @@
--- Laws of `waiting`'s definitions, which the proofs of this crate and of those above cite.
-pub mod Agreeing
-pub mod Firsts
-pub mod Held
-pub mod Parts
-pub mod Requests
-pub mod Splits

@@ -1,6 +1,0 @@
--- Laws of `writing`'s definitions, which the proofs of this crate and of those above cite.
-pub mod Back
-pub mod ByKind
-pub mod Opened
-pub mod Trips
-pub mod Writing

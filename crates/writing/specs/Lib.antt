@@ -1,2 +1,0 @@
--- What `writing` promises: one message written at a place.
-pub mod Writing
