@@ -26,6 +26,9 @@ use Rattle.packet.proofs.judge.judge.Reads as packet-judge
 use Rattle.packet_reader.proofs.judge.judge.Reads as reader-judge
 use Rattle.packet_reader.proofs.frame_of.Reads as reader-frame-of
 use Rattle.packet_reader.proofs.message_of.Reads as reader-message-of
+use Rattle.packet_reader.proofs.plain.opened.Reads as reader-opened
+use Rattle.packet_reader.proofs.plain.refused.Reads as reader-refused
+use Rattle.packet_reader.proofs.plain.stepped.Reads as reader-stepped
 use Rattle.packet_reader.proofs.read.open as reader-open
 use Rattle.packet_reader.proofs.read.refusal as reader-refusal
 use Rattle.packet_reader.proofs.read.step as reader-step
@@ -126,6 +129,15 @@ reader-judge-once κs a one other s t = once
 
 pub reader-frame-of-once : Once reader-frame-of.Post
 reader-frame-of-once κs a one other s t = once
+
+pub reader-opened-once : Once reader-opened.Post
+reader-opened-once κs a one other s t = once
+
+pub reader-refused-once : Once reader-refused.Post
+reader-refused-once κs a one other s t = once
+
+pub reader-stepped-once : Once reader-stepped.Post
+reader-stepped-once κs a one other s t = once
 
 -- where the part lies and what it holds; the loan's own name is the checker's matter
 pub reader-message-of-once : (κs : _) (a : _) (one other : _) (s t : _) → reader-message-of.Post κs a one s → reader-message-of.Post κs a other t → lent one ≡ lent other
