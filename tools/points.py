@@ -39,7 +39,9 @@ class Code:
             name = "entry" if point == "Start" else re.sub(r"^(After|At)-", "", point).lower()
             name = point.lower() if name in self.point else name
             self.name[point], self.point[name] = name, point
-        self.params = re.findall(r"\((\S+) : ([^)]+)\)", re.search(r"abbrev pub Start :\s*(.*?)Type 0\n", tie, re.S).group(1))
+        params = re.findall(r"\((\S+) : ([^)]+)\)", re.search(r"abbrev pub Start :\s*(.*?)Type 0\n", tie, re.S).group(1))
+        # each loop has an `Inv` and a `μ`: they go by the loop's number
+        self.params = [(name + re.search(r"\d*$", kind).group(0), kind) for name, kind in params]
         self.needs = dict(re.findall(r"\n *(Need-\S+) =\s*\(c : (\S+)\)", lts))
         self.answers = re.findall(r"\(answer : (Need-[^ )\n]+)", tie[tie.index("pub spec :"):])
 

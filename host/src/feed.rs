@@ -448,6 +448,10 @@ fn spoil(packet: &mut Vec<u8>, random: &mut Random) {
 
 /// Rates of a pair of lines, in thousandths.
 pub struct Lines {
+    /// Most messages in a packet.
+    pub most: u64,
+    /// Thousandths of packets behind which a heartbeat comes.
+    pub heartbeats: u64,
     pub loss: u64,
     pub swapped: u64,
     pub damaged: u64,
@@ -459,7 +463,7 @@ pub struct Lines {
 pub fn lines(seed: u64, opening: u32, packets: usize, lines: &Lines, manners: Manners) -> Capture {
     let mut random = Random::new(seed);
     let night = Random::new(random.number());
-    let mut feed = Feed::new(night, manners, CALM, 6, opening);
+    let mut feed = Feed::new(night, manners, CALM, lines.most, opening);
     let mut arrivals: Vec<(u64, Vec<u8>)> = Vec::new();
     let mut number = opening as u64;
     let mut turn = 0;
@@ -487,6 +491,15 @@ pub fn lines(seed: u64, opening: u32, packets: usize, lines: &Lines, manners: Ma
         }
         if !arrived {
             arrivals.push((turn + random.between(9, 60), packet));
+        }
+        if random.chance(lines.heartbeats) {
+            let mut beat = Vec::new();
+            start(number as u32, &mut beat);
+            beat[6] = 1;
+            fix_size(&mut beat);
+            for line in 0..1 + lines.second as u64 {
+                arrivals.push((turn + line, beat.clone()));
+            }
         }
         turn += 3;
     }

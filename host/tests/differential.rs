@@ -155,6 +155,8 @@ fn long_nights() {
     let mut packets = 0;
     for night in 0..5 {
         let lines = feed::Lines {
+            most: 6,
+            heartbeats: seed % 200,
             loss: [0, 20, 100, 100, 300][night as usize],
             swapped: [0, 30, 100, 300, 100][night as usize],
             damaged: [0, 0, 10, 30, 10][night as usize],

@@ -1,28 +1,27 @@
 -- The answers to the questions, one law for each way out, over plain values.
 -- Assumes nothing.
-use mathlib.Core.Path.{_≡_, ap, ap₂, _∙_, sym, subst}
-use mathlib.Core.Bool.{true, false, not, and-false}
-use mathlib.Core.List.{List, _∷_}
-use Prim.Native.Nat.{ℕ, suc, _+_, _-_, _*_, _≤_, _<_}
+use mathlib.Core.Path.{_≡_, refl, ap, ap₂, _∙_, sym, subst}
+use mathlib.Core.Bool.{Bool, true, false, cond, not, _&&_}
+use mathlib.Core.List.{List, [], _∷_}
+use Prim.Native.Nat.{ℕ, zero, suc, _+_, _-_, _*_, _≤_, _<_}
+use native.Mathlib.Nat.{le-refl}
 use native.Mathlib.Omega.{arith}
-use borrow.Author.Tests.{eq-eqb, ne-eqb}
 use lib.Dec.{eqb}
 use lib.ListN.{length, getD, take, drop, length-map}
-use lib.Seq.{drop-cons, drop-length}
+use lib.Seq.{drop-cons, drop-length, length-take-le}
 use Rattle.fields.specs.Id.{goodId, numberOf, idAnswer}
 use Rattle.fields.specs.Rules.{goodSymbol, goodSide}
 use Rattle.fields.specs.declared.id.IdValue.{IdValue}
 use Rattle.fields.specs.declared.id.IdValue.the-variants.{Value, Refused}
 use Rattle.fields.proofs.Ids.{accepted-good}
 use Rattle.book.specs.Lookup.{isAt, placeFound, frontOf, backOf, keyAt, symbolAt}
-use Rattle.book.specs.Tables.{blank, gone, noInside, idsOf, frontsOf, backsOf, view}
+use Rattle.book.specs.Tables.{Book, blank, gone, noInside, idsOf, frontsOf, backsOf, view}
 use Rattle.book.specs.Rule.{Kept}
-use Rattle.book.specs.Asking.{noOrderFor, orderAsked, noInsideFor, insideAsked, better, isOf, alone, joined, bestIn, noLevel, noLevelFor, bestAsked, Room}
+use Rattle.book.specs.Asking.{noOrderFor, orderAsked, noInsideFor, insideAsked, insideFor, better, isOf, alone, joined, bestIn, noLevel, bestFor, replyWith, Joins, Room}
 use Rattle.book.specs.declared.lookup.Found.{Found}
 use Rattle.book.specs.declared.lookup.Found.the-variants.{At, Nothing}
 use Rattle.book.specs.declared.tables.Order.{Order}
 use Rattle.book.specs.declared.tables.Inside.{Inside}
-use Rattle.book.specs.declared.tables.Book.{Book}
 use Rattle.book.specs.declared.asking.Reply.the-variants.{Known}
 use Rattle.book.specs.declared.asking.Level.{Level}
 use Rattle.book.specs.declared.asking.OrderReply.{OrderReply}
@@ -33,6 +32,12 @@ use Rattle.book.proofs.Holding.{get-places}
 use Rattle.book.proofs.Steps.{front-keys}
 use Rattle.book.proofs.Types.{pick, answer-value}
 use Rattle.book.proofs.Under.{key-below, symbol-below}
+
+getD-take : (n i : ℕ) (xs : List Order) → i < n → getD (take n xs) i blank ≡ getD xs i blank
+getD-take zero i xs h = absurd (omega arith)
+getD-take (suc n) i [] h = refl
+getD-take (suc n) zero (x ∷ xs) h = refl
+getD-take (suc n) (suc i) (x ∷ xs) h = getD-take n i xs (omega arith)
 
 module _ (b : Book) (kept : Kept b) where
   -- ---- by order id
@@ -72,7 +77,7 @@ module _ (b : Book) (kept : Kept b) where
 
   module _ (symbol : List ℕ) where
     pub inside-bad : goodSymbol symbol ≡ false → noInsideFor 12 ≡ insideAsked (view b) symbol
-    unfolding insideAsked
+    unfolding insideFor
     inside-bad e = simp e
 
     module _ (good : goodSymbol symbol ≡ true) {found : Found} (sought : found ≡ symbolAt symbol (take (b .held) (b .fronts)) (take (b .held) (b .backs))) where
@@ -88,7 +93,7 @@ module _ (b : Book) (kept : Kept b) where
           (front-keys 64 (backsOf xs) (backs-are b (kept .same)) (held-is b (kept .same) ∙ sym (length-map xs (λ i. backOf (i .symbol))))))
 
       pub inside-none : found ≡ Nothing → noInsideFor 13 ≡ insideAsked (view b) symbol
-      unfolding insideAsked
+      unfolding insideFor
       inside-none e = simp (good, inside-found ∙ e)
 
       module _ {place : ℕ} (at : found ≡ At place) where
@@ -104,58 +109,17 @@ module _ (b : Book) (kept : Kept b) where
             ap (λ (l : List Inside). getD l place gone) (insides-are b (kept .same)) ∙ get-places 64 noInside xs place gone small
 
         pub inside-known : _≡_ {A = InsideReply} (record { reply = Known; inside = getD (b .insides) place gone }) (insideAsked (view b) symbol)
-        unfolding insideAsked
+        unfolding insideFor
         inside-known = simp (good, inside-found ∙ at, inside-at)
 
-  -- ---- the best by symbol and side
+-- ---- the best by symbol and side: from the last order to the first
 
-  module _ (symbol : List ℕ) (side : ℕ) where
-    abbrev os : List Order
-    os = view b .orders
-
-    pub best-symbol : goodSymbol symbol ≡ false → noLevelFor 12 ≡ bestAsked (view b) symbol side
-    unfolding bestAsked
-    best-symbol e = simp e
-
-    pub best-side : goodSide side ≡ false → noLevelFor 12 ≡ bestAsked (view b) symbol side
-    unfolding bestAsked
-    best-side e = simp (e, and-false)
-
-    pub best-start : noLevel ≡ bestIn symbol side (drop (b .live) os)
-    unfolding bestIn
-    best-start = sym (ap (λ (n : ℕ). bestIn symbol side (drop n os)) (live-is b (kept .same)) ∙ ap (bestIn symbol side) (drop-length os))
-
-    -- the level of the orders from k on, and one order before
-    pub best-step : (k : ℕ) {level : Level} → 0 < k → k ≤ b .live → level ≡ bestIn symbol side (drop k os)
-        → joined symbol side (getD (b .orders) (k - 1) blank) level ≡ bestIn symbol side (drop (k - 1) os)
-    unfolding bestIn
-    best-step k {level} some few e =
-        let small : k - 1 < b .live = omega arith in
-        let within : k - 1 < length os = rw (live-is b (kept .same)) at small in
-        let next : suc (k - 1) ≡ k = omega arith in
-        ap₂ (joined symbol side) (order-at b (kept .same) (k - 1) small) e
-        ∙ sym (ap (bestIn symbol side) (drop-cons os (k - 1) blank within ∙ ap (λ (j : ℕ). getD os (k - 1) blank ∷ drop j os) next))
-
-    module _ (goods : goodSymbol symbol ≡ true) (goods₂ : goodSide side ≡ true) {k : ℕ} {level : Level} (all : k ≡ 0) (is : level ≡ bestIn symbol side (drop k os)) where
-      whole : bestIn symbol side os ≡ level
-      whole = sym (is ∙ ap (λ (j : ℕ). bestIn symbol side (drop j os)) all)
-
-      pub best-none : level .orders ≡ 0 → noLevelFor 13 ≡ bestAsked (view b) symbol side
-      unfolding bestAsked
-      best-none e = simp (goods, goods₂, whole, eq-eqb _ _ e)
-
-      pub best-known : (level .orders ≡ 0 → ⊥) → _≡_ {A = BestReply} (record { reply = Known; level = level }) (bestAsked (view b) symbol side)
-      unfolding bestAsked
-      best-known e = simp (goods, goods₂, whole, ne-eqb _ _ e)
-
--- ---- no sum wraps
-
--- n orders have at most n times the most shares that one can have
+-- n orders have at most n times the most shares that one can have, so no sum wraps
 pub record Small (n : ℕ) (level : Level) : Type 0 where
   pub shares : level .shares ≤ n * 4_294_967_295
   pub orders : level .orders ≤ n
 
-pub small-more : (symbol : List ℕ) (side n : ℕ) (o : Order) (level : Level) → o .shares ≤ 4_294_967_295 → Small n level → Small (n + 1) (joined symbol side o level)
+small-more : (symbol : List ℕ) (side n : ℕ) (o : Order) (level : Level) → o .shares ≤ 4_294_967_295 → Small n level → Small (n + 1) (joined symbol side o level)
 unfolding joined
 small-more symbol side n o level most small =
     let same : Small (n + 1) level = record { shares = omega arith; orders = omega arith } in
@@ -165,5 +129,77 @@ small-more symbol side n o level most small =
     λ f. pick (Small (n + 1)) (better side (o .price) (level .price)) (λ e. one)
     λ f. pick (Small (n + 1)) (eqb (o .price) (level .price)) (λ e. record { shares = omega arith; orders = omega arith }) (λ e. same)
 
-pub small-room : (n : ℕ) (level : Level) → n ≤ 255 → Small n level → Room level
-small-room n level few small = record { shares = omega arith; orders = omega arith }
+-- of the first n orders, those from k on have the level, and its sums are small
+pub record Going (symbol : List ℕ) (side : ℕ) (orders : List Order) (n k : ℕ) (level : Level) : Type 0 where
+  pub within : k ≤ n
+  pub is : level ≡ bestIn symbol side (drop k (take n orders))
+  pub small : Small (n - k) level
+
+module _ (symbol : List ℕ) (side : ℕ) (orders : List Order) {n : ℕ} (few : n ≤ 256) (long : length orders ≡ 256) where
+  abbrev os : List Order
+  os = take n orders
+
+  os-long : length os ≡ n
+  os-long = length-take-le n orders (omega arith)
+
+  pub best-start : {level : Level} → level ≡ noLevel → Going symbol side orders n n level
+  unfolding bestIn
+  best-start e =
+      record {
+        within = le-refl n;
+        is = e ∙ sym (ap (λ (m : ℕ). bestIn symbol side (drop m os)) (sym os-long) ∙ ap (bestIn symbol side) (drop-length os));
+        small = record { shares = omega (arith, ap (λ (l : Level). l .shares) e); orders = omega (arith, ap (λ (l : Level). l .orders) e) };
+      }
+
+  module _ {k : ℕ} {level : Level} (g : Going symbol side orders n k level) where
+    pub best-room : 0 < k → Room level
+    best-room some =
+        let few₂ : n - k ≤ 255 = omega (arith, g .within) in
+        record { shares = omega (arith, g .small .shares); orders = omega (arith, g .small .orders) }
+
+    -- one order before
+    pub best-step : {r : Level} → 0 < k → Joins symbol side (getD orders (k - 1) blank) level r → Going symbol side orders n (k - 1) r
+    unfolding bestIn
+    best-step {r} some joins =
+        let small : k - 1 < n = omega (arith, g .within) in
+        let inside : k - 1 < length os = omega (arith, os-long) in
+        let next : suc (k - 1) ≡ k = omega arith in
+        let more : n - k + 1 ≡ n - (k - 1) = omega (arith, g .within) in
+        record {
+          within = omega arith;
+          is =
+              joins .same
+              ∙ ap₂ (joined symbol side) (sym (getD-take n (k - 1) orders small)) (g .is)
+              ∙ sym (ap (bestIn symbol side) (drop-cons os (k - 1) blank inside ∙ ap (λ (j : ℕ). getD os (k - 1) blank ∷ drop j os) next));
+          small =
+              subst (λ (m : ℕ). Small m r) more
+              (subst (Small (n - k + 1)) (sym (joins .same))
+              (small-more symbol side (n - k) (getD orders (k - 1) blank) level (joins .most) (g .small)));
+        }
+
+    pub best-all : k ≡ 0 → level ≡ bestIn symbol side os
+    best-all e = g .is ∙ ap (λ (j : ℕ). bestIn symbol side (drop j os)) e
+
+-- the reply by the level of all that is due: for a bad question the level does not count
+same-reply : (good : Bool) (symbol : List ℕ) (side : ℕ) (orders : List Order) (live : ℕ) {n : ℕ} {level : Level}
+    → n ≡ cond good live 0
+    → level ≡ bestIn symbol side (take n orders)
+    → replyWith good level ≡ replyWith good (bestIn symbol side (take live orders))
+unfolding replyWith
+same-reply true symbol side orders live due all = ap (replyWith true) (all ∙ ap (λ (m : ℕ). bestIn symbol side (take m orders)) due)
+same-reply false symbol side orders live due all = refl
+
+pub best-reply : (symbol : List ℕ) (side : ℕ) (orders : List Order) (live : ℕ) {good : Bool} {n : ℕ} {level : Level} {r : BestReply}
+    → good ≡ (goodSymbol symbol && goodSide side)
+    → n ≡ cond good live 0
+    → level ≡ bestIn symbol side (take n orders)
+    → r ≡ replyWith good level
+    → r ≡ bestFor (take live orders) symbol side
+unfolding bestFor
+best-reply symbol side orders live {good} is due all e =
+    e ∙ same-reply good symbol side orders live due all ∙ ap (λ (b : Bool). replyWith b (bestIn symbol side (take live orders))) is
+
+-- no more are due than are live
+pub due-few : (good : Bool) {n live : ℕ} → n ≡ cond good live 0 → live ≤ 256 → n ≤ 256
+due-few true e few = omega (arith, e)
+due-few false e few = omega (arith, e)

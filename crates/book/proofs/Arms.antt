@@ -2,7 +2,7 @@
 -- Assumes nothing.
 use mathlib.Core.Path.{_≡_, refl, ap, _∙_, sym, subst}
 use mathlib.Core.Logic.{_≢_}
-use mathlib.Core.Bool.{Bool, cond, not, _&&_}
+use mathlib.Core.Bool.{Bool, true, false, cond, not, _&&_}
 use mathlib.Core.List.{List, [], _∷_}
 use Prim.Native.Nat.{ℕ, _-_}
 use borrow.Author.Tests.{ne-eqb}
@@ -27,10 +27,11 @@ use Rattle.message.specs.declared.layouts.UpdateFields.{UpdateFields}
 use Rattle.fields.proofs.Ids.{value-good}
 use Rattle.message.proofs.Cases.{Unopened, unopened}
 use Rattle.book.specs.Lookup.{isAt, placeFound}
-use Rattle.book.specs.Applying.{messageIn, effectOf, executionOf}
-use Rattle.book.specs.declared.deciding.Seen.{Seen}
+use Rattle.book.specs.Applying.{Seen, messageIn, effectOf, executionOf}
+use Rattle.book.specs.declared.lookup.Found.{Found}
 use Rattle.book.specs.declared.deciding.Effect.{Effect}
 use Rattle.book.specs.declared.deciding.Effect.the-variants.{Put, Replace, Remove, Renew, Enter, Record, Unchanged, Fault}
+use Rattle.book.proofs.Types.{no}
 
 module _ (s : List ℕ) (seen : Seen) where
   pub session-is : {fields : TradingSessionFields} {broken : ℕ} → fields ≡ tradingSessionIn (rowIn layouts.tradingSession s) → broken ≡ brokenBy 20 (goodSession (fields .session) ∷ [])
@@ -44,54 +45,56 @@ module _ (s : List ℕ) (seen : Seen) where
   unfolding effectOf fieldsOf messageOf layoutOf payloadOf brokenOf
   trade-is read b = rw (b, read)
 
-  pub top-is : {fields : TopFields} {broken : ℕ} → fields ≡ topIn (rowIn layouts.top s)
+  pub top-is : {inside : Found} {held : ℕ} → seen .inside ≡ inside → seen .held ≡ held → {fields : TopFields} {broken : ℕ} → fields ≡ topIn (rowIn layouts.top s)
       → broken ≡ brokenBy 26 (goodSymbol (fields .symbol) ∷ goodInsidePrice (fields .ask) ∷ goodInsidePrice (fields .bid) ∷ goodUnsolicited (fields .unsolicited) ∷ [])
-      → firstOf ((not (eqb broken 0), Fault 2) ∷ (not (isAt (seen .inside)) && leb 64 (seen .held), Fault 8) ∷ []) (cond (isAt (seen .inside)) (Renew (placeFound (seen .inside))) Enter)
+      → firstOf ((not (eqb broken 0), Fault 2) ∷ (not (isAt inside) && leb 64 held, Fault 8) ∷ []) (cond (isAt inside) (Renew (placeFound inside)) Enter)
       ≡ effectOf seen (fieldsOf 26 s)
   unfolding effectOf fieldsOf messageOf layoutOf payloadOf brokenOf
-  top-is read b = rw (b, read)
+  top-is i h read b = rw (b, read, sym i, sym h)
 
   -- 21 to 25: an id is good exactly where it has a value
   module _ {key : ℕ} (value : key ≡ numberOf (part s 7 14)) {named : Bool} (asked : named ≡ isValue key) where
     named-good : named ≡ goodId (part s 7 14)
     named-good = asked ∙ value-good (part s 7 14) value
 
-    pub add-is : {fields : AddFields} {broken : ℕ} → fields ≡ addIn (rowIn layouts.add s)
-        → broken ≡ brokenBy 21 (named ∷ goodSide (fields .side) ∷ goodQuantity (fields .quantity) ∷ goodSymbol (fields .symbol) ∷ goodPrice (fields .price) ∷ goodUnsolicited (fields .unsolicited) ∷ [])
-        → firstOf ((not (eqb broken 0), Fault 2) ∷ (isAt (seen .order), Fault 3) ∷ (leb 256 (seen .live), Fault 4) ∷ []) Put ≡ effectOf seen (fieldsOf 21 s)
-    unfolding effectOf fieldsOf messageOf layoutOf payloadOf brokenOf
-    add-is read b = rw (b, named-good, read)
+    module _ {order : Found} (o : seen .order ≡ order) where
+      pub add-is : {live : ℕ} → seen .live ≡ live → {fields : AddFields} {broken : ℕ} → fields ≡ addIn (rowIn layouts.add s)
+          → broken ≡ brokenBy 21 (named ∷ goodSide (fields .side) ∷ goodQuantity (fields .quantity) ∷ goodSymbol (fields .symbol) ∷ goodPrice (fields .price) ∷ goodUnsolicited (fields .unsolicited) ∷ [])
+          → firstOf ((not (eqb broken 0), Fault 2) ∷ (isAt order, Fault 3) ∷ (leb 256 live, Fault 4) ∷ []) Put ≡ effectOf seen (fieldsOf 21 s)
+      unfolding effectOf fieldsOf messageOf layoutOf payloadOf brokenOf
+      add-is l read b = rw (b, named-good, read, sym o, sym l)
 
-    pub update-is : {fields : UpdateFields} {broken : ℕ} → fields ≡ updateIn (rowIn layouts.update s)
-        → broken ≡ brokenBy 22 (named ∷ goodQuantity (fields .quantity) ∷ goodPrice (fields .price) ∷ [])
-        → firstOf ((not (eqb broken 0), Fault 2) ∷ (not (isAt (seen .order)), Fault 5) ∷ []) (Replace (placeFound (seen .order)) (fields .quantity) (fields .price)) ≡ effectOf seen (fieldsOf 22 s)
-    unfolding effectOf fieldsOf messageOf layoutOf payloadOf brokenOf
-    update-is read b = rw (b, named-good, read)
+      pub update-is : {fields : UpdateFields} {broken : ℕ} → fields ≡ updateIn (rowIn layouts.update s)
+          → broken ≡ brokenBy 22 (named ∷ goodQuantity (fields .quantity) ∷ goodPrice (fields .price) ∷ [])
+          → firstOf ((not (eqb broken 0), Fault 2) ∷ (not (isAt order), Fault 5) ∷ []) (Replace (placeFound order) (fields .quantity) (fields .price)) ≡ effectOf seen (fieldsOf 22 s)
+      unfolding effectOf fieldsOf messageOf layoutOf payloadOf brokenOf
+      update-is read b = rw (b, named-good, read, sym o)
 
-    pub delete-is : {broken : ℕ} → broken ≡ brokenBy 23 (named ∷ [])
-        → firstOf ((not (eqb broken 0), Fault 2) ∷ (not (isAt (seen .order)), Fault 5) ∷ []) (Remove (placeFound (seen .order))) ≡ effectOf seen (fieldsOf 23 s)
-    unfolding effectOf fieldsOf messageOf layoutOf payloadOf brokenOf
-    delete-is b = rw (b, named-good)
+      pub delete-is : {broken : ℕ} → broken ≡ brokenBy 23 (named ∷ [])
+          → firstOf ((not (eqb broken 0), Fault 2) ∷ (not (isAt order), Fault 5) ∷ []) (Remove (placeFound order)) ≡ effectOf seen (fieldsOf 23 s)
+      unfolding effectOf fieldsOf messageOf layoutOf payloadOf brokenOf
+      delete-is b = rw (b, named-good, sym o)
 
-    abbrev judged : ℕ → ℕ → ℕ → Effect
-    judged broken executed remaining =
-        firstOf
-        ((not (eqb broken 0), Fault 2)
-        ∷ (not (isAt (seen .order)), Fault 5)
-        ∷ (ltb (seen .shares) executed, Fault 6)
-        ∷ (not (eqb remaining (seen .shares - executed)), Fault 7)
-        ∷ [])
-        (executionOf seen executed)
+      module _ {shares price : ℕ} (q : seen .shares ≡ shares) (p : seen .price ≡ price) where
+        abbrev judged : ℕ → ℕ → ℕ → Effect
+        judged broken executed remaining =
+            firstOf
+            ((not (eqb broken 0), Fault 2)
+            ∷ (not (isAt order), Fault 5)
+            ∷ (ltb shares executed, Fault 6)
+            ∷ (not (eqb remaining (shares - executed)), Fault 7)
+            ∷ [])
+            (executionOf order shares price executed)
 
-    pub execution-is : {fields : ExecutionFields} {broken : ℕ} → fields ≡ executionIn (rowIn layouts.execution s)
-        → broken ≡ brokenBy 24 (named ∷ goodQuantity (fields .executed) ∷ []) → judged broken (fields .executed) (fields .remaining) ≡ effectOf seen (fieldsOf 24 s)
-    unfolding effectOf fieldsOf messageOf layoutOf payloadOf brokenOf
-    execution-is read b = rw (b, named-good, read)
+        pub execution-is : {fields : ExecutionFields} {broken : ℕ} → fields ≡ executionIn (rowIn layouts.execution s)
+            → broken ≡ brokenBy 24 (named ∷ goodQuantity (fields .executed) ∷ []) → judged broken (fields .executed) (fields .remaining) ≡ effectOf seen (fieldsOf 24 s)
+        unfolding effectOf fieldsOf messageOf layoutOf payloadOf brokenOf
+        execution-is read b = rw (b, named-good, read, sym o, sym q, sym p)
 
-    pub priced-is : {fields : PricedFields} {broken : ℕ} → fields ≡ pricedIn (rowIn layouts.priced s)
-        → broken ≡ brokenBy 25 (named ∷ goodQuantity (fields .executed) ∷ goodPrice (fields .price) ∷ []) → judged broken (fields .executed) (fields .remaining) ≡ effectOf seen (fieldsOf 25 s)
-    unfolding effectOf fieldsOf messageOf layoutOf payloadOf brokenOf
-    priced-is read b = rw (b, named-good, read)
+        pub priced-is : {fields : PricedFields} {broken : ℕ} → fields ≡ pricedIn (rowIn layouts.priced s)
+            → broken ≡ brokenBy 25 (named ∷ goodQuantity (fields .executed) ∷ goodPrice (fields .price) ∷ []) → judged broken (fields .executed) (fields .remaining) ≡ effectOf seen (fieldsOf 25 s)
+        unfolding effectOf fieldsOf messageOf layoutOf payloadOf brokenOf
+        priced-is read b = rw (b, named-good, read, sym o, sym q, sym p)
 
   -- the types that change nothing
   pub quiet-9 : Unchanged ≡ effectOf seen (fieldsOf 9 s)
@@ -114,9 +117,22 @@ module _ (s : List ℕ) (seen : Seen) where
   pub typed : (k : ℕ) {t : ℕ} {e : Effect} → t ≡ typeIn s → t ≡ k → e ≡ effectOf seen (fieldsOf k s) → e ≡ effectOf seen (messageIn s)
   typed k is e h = h ∙ ap (λ (j : ℕ). effectOf seen (fieldsOf j s)) (sym e ∙ is)
 
-  -- fault 1: a type that is not in the table
-  pub unlisted : (k : ℕ) → Unopened k → k ≢ 28 → Fault 1 ≡ effectOf seen (fieldsOf k s)
+  -- fault 1: a type that is not in the table, one that names no order and is none of the others
+  abbrev Others : ℕ → Type 0
+  Others t = (((((((Unit {0} × (t ≡ 20 → ⊥)) × (t ≡ 26 → ⊥)) × (t ≡ 27 → ⊥)) × (t ≡ 9 → ⊥)) × (t ≡ 11 → ⊥)) × (t ≡ 12 → ⊥)) × (t ≡ 28 → ⊥))
+
+  apart : (t : ℕ) → (leb 21 t && leb t 25) ≡ false → Others t → Unopened t
+  apart t out h =
+      (((((((((((tt, h .0 .0 .0 .1), h .0 .0 .1), h .0 .1), h .0 .0 .0 .0 .0 .0 .1), aside 21 refl), aside 22 refl), aside 23 refl), aside 24 refl), aside 25 refl), h .0 .0 .0 .0 .0 .1), h .0 .0 .0 .0 .1)
+    where
+      aside : (k : ℕ) → (leb 21 k && leb k 25) ≡ true → t ≢ k
+      aside k within e = no (sym out ∙ ap (λ (j : ℕ). leb 21 j && leb j 25) e ∙ within)
+
+  unlisted-at : (t : ℕ) → Unopened t → t ≢ 28 → Fault 1 ≡ effectOf seen (fieldsOf t s)
   unfolding effectOf payloadOf
-  unlisted k h n =
-      subst (λ (m : Message). Fault 1 ≡ effectOf seen m) (unopened k s h)
-      (simp (ne-eqb k 9 (h .0 .0 .0 .0 .0 .0 .0 .0 .0 .0 .1), ne-eqb k 11 (h .0 .0 .0 .0 .0 .0 .0 .0 .0 .1), ne-eqb k 12 (h .0 .0 .0 .0 .0 .0 .0 .0 .1), ne-eqb k 20 (h .0 .0 .0 .0 .0 .0 .0 .1), ne-eqb k 21 (h .0 .0 .0 .0 .0 .0 .1), ne-eqb k 22 (h .0 .0 .0 .0 .0 .1), ne-eqb k 23 (h .0 .0 .0 .0 .1), ne-eqb k 24 (h .0 .0 .0 .1), ne-eqb k 25 (h .0 .0 .1), ne-eqb k 26 (h .0 .1), ne-eqb k 27 (h .1), ne-eqb k 28 n))
+  unlisted-at t h n =
+      subst (λ (m : Message). Fault 1 ≡ effectOf seen m) (unopened t s h)
+      (simp (ne-eqb t 9 (h .0 .0 .0 .0 .0 .0 .0 .0 .0 .0 .1), ne-eqb t 11 (h .0 .0 .0 .0 .0 .0 .0 .0 .0 .1), ne-eqb t 12 (h .0 .0 .0 .0 .0 .0 .0 .0 .1), ne-eqb t 20 (h .0 .0 .0 .0 .0 .0 .0 .1), ne-eqb t 21 (h .0 .0 .0 .0 .0 .0 .1), ne-eqb t 22 (h .0 .0 .0 .0 .0 .1), ne-eqb t 23 (h .0 .0 .0 .0 .1), ne-eqb t 24 (h .0 .0 .0 .1), ne-eqb t 25 (h .0 .0 .1), ne-eqb t 26 (h .0 .1), ne-eqb t 27 (h .1), ne-eqb t 28 n))
+
+  pub unlisted : {t : ℕ} → t ≡ typeIn s → (leb 21 (typeIn s) && leb (typeIn s) 25) ≡ false → Others t → Fault 1 ≡ effectOf seen (messageIn s)
+  unlisted {t} is out h = typed t is refl (unlisted-at t (apart t (ap (λ (j : ℕ). leb 21 j && leb j 25) is ∙ out) h) (h .1))

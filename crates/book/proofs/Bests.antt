@@ -10,7 +10,7 @@ use native.Mathlib.Omega.{arith}
 use borrow.Author.Tests.{ne-eqb, eq-eqb, eqb-true, eqb-false, ltb-true, ltb-false, lt-ltb, le-ltb, not-true, not-false}
 use lib.Dec.{eqb, ltb}
 use Rattle.fields.proofs.Tests.{and-left, and-right}
-use Rattle.book.specs.Asking.{better, isOf, count, sum, atPrice, beats, Best, alone, together, joined, bestIn, noLevelFor, bestAsked}
+use Rattle.book.specs.Asking.{better, isOf, count, sum, atPrice, beats, Best, alone, together, joined, bestIn, noLevelFor, bestAsked, bestFor, replyWith}
 use Rattle.fields.specs.Rules.{goodSymbol, goodSide}
 use Rattle.book.specs.Tables.{Tables}
 use Rattle.book.specs.declared.asking.Reply.the-variants.{Known}
@@ -232,7 +232,7 @@ module _ (symbol : List ℕ) (side : ℕ) where
 
   module _ (t : Tables) (good : (goodSymbol symbol && goodSide side) ≡ true) where
     pub best-answer : (l : Level) → Best symbol side (t .orders) l → bestAsked t symbol side ≡ record { reply = Known; level = l }
-    unfolding bestAsked
+    unfolding bestFor replyWith
     best-answer l b =
         let some : bestIn symbol side (t .orders) .orders ≢ 0 = λ e. none-best (t .orders) l (best-empty (t .orders) e) b in
         let same : bestIn symbol side (t .orders) ≡ l = best-one (t .orders) (bestIn symbol side (t .orders)) l (best-is (t .orders) some) b in
@@ -240,5 +240,5 @@ module _ (symbol : List ℕ) (side : ℕ) where
         simp (good, same, ne-eqb _ _ filled-l)
 
     pub best-none-live : count (isOf symbol side) (t .orders) ≡ 0 → bestAsked t symbol side ≡ noLevelFor 13
-    unfolding bestAsked
+    unfolding bestFor replyWith
     best-none-live zero = simp (good, eq-eqb _ _ (empty-best (t .orders) zero))

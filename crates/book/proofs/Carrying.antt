@@ -10,12 +10,11 @@ use Rattle.book_index.specs.Changes.{without}
 use Rattle.book_index.proofs.Laws.{map-without}
 use Rattle.book_index.proofs.Moves.{length-without}
 use Rattle.book.specs.Lookup.{frontOf, backOf}
-use Rattle.book.specs.Tables.{withOrders, withInsides, withCode, withFaults, blank, gone, noOrder, noInside, places, idsOf, frontsOf, backsOf, holdingOrders, holdingInsides, holdingMarks, rep, view}
+use Rattle.book.specs.Tables.{Book, withOrders, withInsides, withCode, withFaults, blank, gone, noOrder, noInside, places, idsOf, frontsOf, backsOf, holdingOrders, holdingInsides, holdingMarks, rep, view}
 use Rattle.book.specs.Applying.{repriced}
 use Rattle.book.specs.declared.tables.Order.{Order}
 use Rattle.book.specs.declared.tables.Inside.{Inside}
 use Rattle.book.specs.declared.tables.Faults.{Faults}
-use Rattle.book.specs.declared.tables.Book.{Book}
 use Rattle.book.proofs.Holding.{put-places, set-places, get-places, leave-places, map-put, length-put}
 
 abbrev idOf : Order → ℕ

@@ -25,14 +25,12 @@ use Rattle.message.proofs.Kept.{all-kept}
 use Rattle.message.specs.declared.kinds.Message.{Message}
 use Rattle.wire.specs.Number.{part}
 use Rattle.book.specs.Lookup.{frontOf, backOf, sameSymbol}
-use Rattle.book.specs.Tables.{Tables, fresh, withOrders, withInsides, blank, gone, noOrder, noInside, idsOf, frontsOf, backsOf, rep, view}
-use Rattle.book.specs.Applying.{messageIn, topicOf, seenOf, effectIn, carried, applyOf, orderOf, insideOf, repriced, applyUnder, effectOf}
+use Rattle.book.specs.Tables.{Book, Tables, fresh, withOrders, withInsides, blank, gone, noOrder, noInside, idsOf, frontsOf, backsOf, rep, view}
+use Rattle.book.specs.Applying.{Seen, messageIn, topicOf, seenOf, effectIn, carried, applyOf, orderOf, insideOf, repriced, applyUnder, effectOf}
 use Rattle.book.specs.Named.{hasId, hasSymbol}
 use Rattle.book.specs.Rule.{GoodOrder, GoodInside, Distinct, Apart, Sound, Kept, Ready}
 use Rattle.book.specs.declared.tables.Order.{Order}
 use Rattle.book.specs.declared.tables.Inside.{Inside}
-use Rattle.book.specs.declared.tables.Book.{Book}
-use Rattle.book.specs.declared.deciding.Seen.{Seen}
 use Rattle.book.specs.declared.deciding.Effect.{Effect}
 use Rattle.book.specs.declared.deciding.Effect.the-variants.{Put, Replace, Remove, Renew, Enter, Record, Unchanged, Fault}
 use Rattle.book.proofs.Holding.{take-places, length-places, map-put, length-put}
@@ -143,7 +141,7 @@ module _ (s : List ℕ) where
   told-good g =
       let x = insideOf (fieldsOf 26 s) in
       let k = all-kept 26 (goodSymbol (x .symbol) ∷ goodInsidePrice (x .ask) ∷ goodInsidePrice (x .bid) ∷ goodUnsolicited (x .unsolicited) ∷ []) tt g in
-      record { symbol = k .0; ask = k .1 .0; bid = k .1 .1 .0; unsolicited = k .1 .1 .1 .0 }
+      record { symbol = k .0; long = refl; ask = k .1 .0; bid = k .1 .1 .0; unsolicited = k .1 .1 .1 .0 }
 
   coded-good : goodMessage (fieldsOf 20 s) ≡ true → goodSession (numberIn (rowOf (fieldsOf 20 s)) 1) ≡ true
   unfolding fieldsOf messageOf layoutOf brokenOf

@@ -6,11 +6,10 @@ use Prim.Native.Nat.{ℕ, _+_, _≤_}
 use native.Mathlib.Omega.{arith}
 use lib.Dec.{eqb}
 use Rattle.message.specs.declared.kinds.Message.{Message}
-use Rattle.book.specs.Tables.{Tables, withFaults, view}
+use Rattle.book.specs.Tables.{Book, Tables, withFaults, view}
 use Rattle.book.specs.Applying.{messageIn, effectIn, effectOf, carried, applyOf, applyUnder, faulted}
 use Rattle.book.specs.Rule.{Ready}
 use Rattle.book.specs.declared.tables.Faults.{Faults}
-use Rattle.book.specs.declared.tables.Book.{Book}
 use Rattle.book.specs.declared.deciding.Effect.{Effect}
 use Rattle.book.specs.declared.deciding.Effect.the-variants.{Put, Replace, Remove, Renew, Enter, Record, Unchanged, Fault}
 use Rattle.book.proofs.Types.{pick}

@@ -16,12 +16,11 @@ use Rattle.message.specs.Row.{typeOf, rowOf}
 use Rattle.message.specs.declared.kinds.Message.{Message}
 use Rattle.book.specs.Lookup.{isAt, sameSymbol}
 use Rattle.book.specs.Tables.{Tables, blank, gone}
-use Rattle.book.specs.Applying.{messageIn, topicOf, thereOf, orderSeen, seenOf, names, effectIn, effectOf, executionOf, changeOf, carried, applyOf, applyUnder, orderOf, insideOf, repriced}
+use Rattle.book.specs.Applying.{Seen, messageIn, topicOf, thereOf, orderSeen, seenOf, names, effectIn, effectOf, executionOf, changeOf, carried, applyOf, applyUnder, orderOf, insideOf, repriced}
 use Rattle.book.specs.Named.{firstThat, isThere, hasId, orderUnder, hasSymbol, insideUnder, isFault, orderUpdated, orderExecuted, orderAfter, insideAfter}
 use Rattle.book.specs.Rule.{Sound}
 use Rattle.book.specs.declared.tables.Order.{Order}
 use Rattle.book.specs.declared.tables.Inside.{Inside}
-use Rattle.book.specs.declared.deciding.Seen.{Seen}
 use Rattle.book.specs.declared.deciding.Effect.{Effect}
 use Rattle.book.specs.declared.deciding.Effect.the-variants.{Put, Replace, Remove, Renew, Enter, Record, Unchanged, Fault}
 use Rattle.book.proofs.Keeping.{absent-inside, absent-order}
@@ -149,7 +148,7 @@ module _ (t : Tables) (sound : Sound t) (number : ℕ) (s : List ℕ) where
   abbrev OrderAfter : Option Order → Effect → Type 0
   OrderAfter after e = Change seen m e → orderBehind m e (orderUnder t key) ≡ after
 
-  execution-after : OrderAfter (orderExecuted (numberIn (rowOf m) 2) (orderUnder t key)) (executionOf seen (numberIn (rowOf m) 2))
+  execution-after : OrderAfter (orderExecuted (numberIn (rowOf m) 2) (orderUnder t key)) (executionOf (seen .order) (seen .shares) (seen .price) (numberIn (rowOf m) 2))
   unfolding seenOf
   execution-after =
       let n = numberIn (rowOf m) 2 in
@@ -177,7 +176,7 @@ module _ (t : Tables) (sound : Sound t) (number : ℕ) (s : List ℕ) where
   inside-changed : (old : Option Inside) → InsideAfter old (changeOf seen m)
   inside-changed old =
       let After = InsideAfter old in
-      let execution : old ≡ insideAfter m old → After (executionOf seen (numberIn (rowOf m) 2)) =
+      let execution : old ≡ insideAfter m old → After (executionOf (seen .order) (seen .shares) (seen .price) (numberIn (rowOf m) 2)) =
       λ h. pick After (eqb (seen .shares - numberIn (rowOf m) 2) 0) (λ z. h) (λ z. h) in
       pick After (eqb type 20) (λ e. rw (eqb-true type 20 e))
       λ f0. pick After (eqb type 21) (λ e. rw (eqb-true type 21 e))

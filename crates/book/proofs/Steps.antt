@@ -11,11 +11,10 @@ use Rattle.wire.specs.Number.{part}
 use Rattle.fields.specs.Id.{numberOf}
 use Rattle.message.specs.Layouts.{layoutOf, typeIn}
 use Rattle.message.specs.Row.{fieldsOf, messageOf, typeOf}
-use Rattle.message.specs.Table.{payloadOf}
 use Rattle.book.specs.Lookup.{isAt, placeFound, frontOf, backOf, keyAt, symbolAt}
-use Rattle.book.specs.Tables.{Tables, blank, noOrder, places, idsOf, frontsOf, backsOf, holdingOrders, holdingInsides, holdingMarks, rep, view}
+use Rattle.book.specs.Tables.{Book, Tables, blank, noOrder, places, idsOf, frontsOf, backsOf, holdingOrders, holdingInsides, holdingMarks, rep, view}
 use Rattle.message.specs.Whole.{Whole}
-use Rattle.book.specs.Applying.{Naming, messageIn, topicOf, thereOf, seenOf, effectIn, carried, applyOf, orderOf, insideOf, faulted, applyUnder, effectOf}
+use Rattle.book.specs.Applying.{Seen, Naming, messageIn, topicOf, thereOf, seenOf, effectIn, carried, applyOf, orderOf, insideOf, faulted, applyUnder, effectOf}
 use Rattle.book.specs.Rule.{Kept}
 use Rattle.message.specs.declared.kinds.Message.{Message}
 use Rattle.book.specs.declared.lookup.Found.{Found}
@@ -23,14 +22,12 @@ use Rattle.book.specs.declared.lookup.Found.the-variants.{At, Nothing}
 use Rattle.book.specs.declared.tables.Order.{Order}
 use Rattle.book.specs.declared.tables.Inside.{Inside}
 use Rattle.book.specs.declared.tables.Faults.{Faults}
-use Rattle.book.specs.declared.tables.Book.{Book}
-use Rattle.book.specs.declared.deciding.Seen.{Seen}
 use Rattle.book.specs.declared.deciding.Effect.{Effect}
 use Rattle.book.specs.declared.deciding.Effect.the-variants.{Put, Replace, Remove, Renew, Enter, Record, Unchanged, Fault}
 use Rattle.book.proofs.Carrying.{live-is, held-is, orders-are, keys-are, fronts-are, backs-are, restored, restored-is, put-rep, enter-rep, replace-rep, remove-rep, renew-rep, marked-rep}
 use Rattle.book.proofs.Holding.{take-places}
 use Rattle.book.proofs.Told.{Change, tells, AtOrder}
-use Rattle.book.proofs.Types.{opened, type-kept, told-topic}
+use Rattle.book.proofs.Types.{add-id, add-naming, top-room, type-kept, told-topic}
 use Rattle.book.proofs.Under.{at-inside, at-order, key-below, renewed}
 
 -- what the code knows once the effect is decided
@@ -140,10 +137,9 @@ module _ {b : Book} {s : List ℕ} {key : ℕ} {topic : List ℕ} {e : Effect} (
     put-few = rw live-seen at (tell h .few)
 
     pub put-naming : Naming 55 s key
-    unfolding payloadOf fieldsOf messageOf layoutOf
     put-naming =
         let t = of-type (tell h .type) in
-        record { room = opened s refl 21 t refl (d .whole .enough); value = d .value ∙ ap (λ (k : ℕ). numberOf (fieldsOf k s .id)) t }
+        add-naming s t (d .whole) (d .value ∙ sym (add-id s t))
 
     pub put-done : (number : ℕ) {made : Order} → made ≡ orderOf (fieldsOf 21 s)
         → _≡_ {A = Book} (holdingOrders b (set (b .orders) (b .live) made) (set (b .keys) (b .live) key) (b .live + 1))
@@ -181,10 +177,6 @@ module _ {b : Book} {s : List ℕ} {key : ℕ} {topic : List ℕ} {e : Effect} (
   remove-done number h is = rw is (remove-rep b (d .kept .same) _ (remove-within h) (d .kept .live) ∙ done number h)
 
   -- Renew and Enter
-  top-room : typeOf m ≡ 26 → 46 ≤ length s
-  unfolding payloadOf
-  top-room h = opened s refl 26 (of-type h) refl (d .whole .enough)
-
   told-is : typeOf m ≡ 26 → {x : Inside} → x ≡ insideOf (fieldsOf 26 s) → insideOf m ≡ x
   told-is h is = ap (λ (k : ℕ). insideOf (fieldsOf k s)) (of-type h) ∙ sym is
 
@@ -192,7 +184,7 @@ module _ {b : Book} {s : List ℕ} {key : ℕ} {topic : List ℕ} {e : Effect} (
   topic-told h = told-topic s h ∙ sym (d .about)
 
   pub renew-room : {place : ℕ} → e ≡ Renew place → 46 ≤ length s
-  renew-room h = top-room (tell h .type)
+  renew-room h = top-room s (of-type (tell h .type)) (d .whole)
 
   pub renew-within : {place : ℕ} → e ≡ Renew place → place < b .held
   renew-within h = rw (held-is b (d .kept .same)) (at-inside (view b) m (tell h) .0)
@@ -208,7 +200,7 @@ module _ {b : Book} {s : List ℕ} {key : ℕ} {topic : List ℕ} {e : Effect} (
       ∙ done number h
 
   pub enter-room : e ≡ Enter → 46 ≤ length s
-  enter-room h = top-room (tell h .type)
+  enter-room h = top-room s (of-type (tell h .type)) (d .whole)
 
   pub enter-few : e ≡ Enter → b .held < 64
   enter-few h = rw held-seen at (tell h .few)

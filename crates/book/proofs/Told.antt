@@ -13,9 +13,8 @@ use Rattle.message.specs.Rules.{goodMessage}
 use Rattle.message.specs.Table.{payloadOf}
 use Rattle.message.specs.declared.kinds.Message.{Message}
 use Rattle.book.specs.Lookup.{isAt, placeFound}
-use Rattle.book.specs.Applying.{names, executes, changeOf, effectOf}
+use Rattle.book.specs.Applying.{Seen, names, executes, changeOf, effectOf}
 use Rattle.book.specs.Named.{isFault}
-use Rattle.book.specs.declared.deciding.Seen.{Seen}
 use Rattle.book.specs.declared.deciding.Effect.{Effect}
 use Rattle.book.specs.declared.deciding.Effect.the-variants.{Put, Replace, Remove, Renew, Enter, Record, Unchanged, Fault}
 use Rattle.book.proofs.Types.{no, pick}

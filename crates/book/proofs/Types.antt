@@ -10,17 +10,19 @@ use borrow.Author.Tests.{eq-eqb, ne-eqb, eqb-true}
 use lib.Dec.{eqb}
 use lib.ListN.{length}
 use Rattle.wire.specs.Number.{part}
-use Rattle.fields.specs.Tests.{between, firstAll}
-use Rattle.fields.specs.Id.{isDigit, goodId, valueOf, noValue, numberOf, idAnswer}
+use Rattle.fields.specs.Tests.{between}
+use Rattle.fields.specs.Id.{goodId, valueOf, noValue, numberOf, idAnswer}
 use Rattle.fields.specs.declared.id.IdValue.{IdValue}
 use Rattle.fields.specs.declared.id.IdValue.the-variants.{Value, Refused}
 use Rattle.message.proofs.Cases.{room}
 use Rattle.message.specs.Layouts.{layoutOf, typeIn}
 use Rattle.message.specs.Row.{noText, fieldsOf, messageOf, typeOf}
 use Rattle.fields.proofs.Ids.{value-good}
+use Rattle.fields.proofs.Tests.{in-range}
 use Rattle.message.specs.Table.{payloadOf, tooShort}
+use Rattle.message.specs.Whole.{Whole}
 use Rattle.message.specs.declared.kinds.Message.{Message}
-use Rattle.book.specs.Applying.{messageIn, topicOf, orderOf, insideOf}
+use Rattle.book.specs.Applying.{Keyed, Naming, messageIn, topicOf, names, orderOf, insideOf}
 -- ---- going by a test
 
 pub use Rattle.book_index.proofs.Below.{pick, split}
@@ -47,10 +49,7 @@ pub answer-refused : (id : List ℕ) {answer : IdValue} {n : ℕ} → answer ≡
 unfolding idAnswer numberOf
 answer-refused id is e = answer-cases id (goodId id) {v = 0} .1 (sym is ∙ e)
 
--- ---- the types that name an order, and the others
-
-abbrev Zero : Message → Type 0
-Zero m = m .id ≡ noText
+-- ---- the types that name an order
 
 abbrev Typed : ℕ → Message → Type 0
 Typed k m = typeOf m ≡ k
@@ -79,29 +78,6 @@ module _ (k : ℕ) (s : List ℕ) where
       λ n3. split k 24 (λ e. let r = room 24 (length s) e refl h in omega arith)
       λ n4. split k 25 (λ e. let r = room 25 (length s) e refl h in omega arith)
       λ n5. absurd (omega arith)
-
-  no-text : noValue ≡ numberOf noText
-  unfolding numberOf goodId firstAll isDigit between
-  no-text = refl
-
-  -- no other type names one
-  pub unnamed-id : (k ≢ 21) → (k ≢ 22) → (k ≢ 23) → (k ≢ 24) → (k ≢ 25) → noValue ≡ numberOf (fieldsOf k s .id)
-  unfolding fieldsOf messageOf
-  unnamed-id n1 n2 n3 n4 n5 = no-text ∙ ap numberOf (sym gone)
-    where
-      gone : fieldsOf k s .id ≡ noText
-      gone =
-          pick Zero (eqb k 9) (λ e. refl)
-          λ f. pick Zero (eqb k 11) (λ e. refl)
-          λ f. pick Zero (eqb k 12) (λ e. refl)
-          λ f. pick Zero (eqb k 20) (λ e. refl)
-          λ f. pick Zero (eqb k 21) (λ e. absurd (n1 (eqb-true k 21 e)))
-          λ f. pick Zero (eqb k 22) (λ e. absurd (n2 (eqb-true k 22 e)))
-          λ f. pick Zero (eqb k 23) (λ e. absurd (n3 (eqb-true k 23 e)))
-          λ f. pick Zero (eqb k 24) (λ e. absurd (n4 (eqb-true k 24 e)))
-          λ f. pick Zero (eqb k 25) (λ e. absurd (n5 (eqb-true k 25 e)))
-          λ f. pick Zero (eqb k 26) (λ e. refl)
-          λ f. pick Zero (eqb k 27) (λ e. refl) (λ e. refl)
 
   -- a message that was read has the type that it was read with
   pub type-kept : typeOf (fieldsOf k s) ≡ k
@@ -153,12 +129,6 @@ module _ (s : List ℕ) {t : ℕ} (is : t ≡ typeIn s) where
   pub type-read : typeOf (messageIn s) ≡ t
   type-read = type-kept (typeIn s) s ∙ sym is
 
-  pub topic-is : t ≡ 26 → part s 7 14 ≡ topicOf (messageIn s)
-  unfolding fieldsOf messageOf layoutOf
-  topic-is e =
-      let top : part s 7 14 ≡ topicOf (fieldsOf 26 s) = refl in
-      top ∙ ap (λ (j : ℕ). topicOf (fieldsOf j s)) (sym e ∙ is)
-
   pub topic-none : t ≢ 26 → noText ≡ topicOf (messageIn s)
   topic-none n = simp (ne-eqb _ _ (λ e. n (sym type-read ∙ e)))
 
@@ -168,3 +138,55 @@ module _ (s : List ℕ) {t : ℕ} (is : t ≡ typeIn s) where
 
   pub opened-id : {key : ℕ} → 21 ≤ t → t < 26 → key ≡ numberOf (messageIn s .id) → key ≡ numberOf (part s 7 14)
   opened-id low high e = e ∙ sym (named-id t s low high ∙ typed-id)
+
+  -- 22 to 25, by the type
+  pub naming : (k : ℕ) {key : ℕ} → t ≡ k → names k ≡ true → not (eqb (payloadOf k) 255) ≡ true → Keyed s key → Naming (3 + payloadOf k) s key
+  unfolding between
+  naming k e named listed keyed =
+      let low = in-range 22 25 k named .0 in
+      let high = in-range 22 25 k named .1 in
+      record { room = opened k e listed (keyed .whole .enough); value = opened-id (omega arith) (omega arith) (keyed .value) }
+
+  pub last-named : names (typeIn s) ≡ true → t ≢ 22 → t ≢ 23 → t ≢ 24 → t ≡ 25
+  unfolding between
+  last-named named n22 n23 n24 =
+      let low = in-range 22 25 (typeIn s) named .0 in
+      let high = in-range 22 25 (typeIn s) named .1 in
+      omega arith
+
+-- ---- what a caller knows of a message by its type alone
+
+module _ (s : List ℕ) where
+  -- 21
+  pub add-id : typeIn s ≡ 21 → numberOf (part s 7 14) ≡ numberOf (messageIn s .id)
+  add-id e = named-id (typeIn s) s (omega arith) (omega arith)
+
+  pub add-naming : {key : ℕ} → typeIn s ≡ 21 → Whole s → key ≡ numberOf (part s 7 14) → Naming 55 s key
+  unfolding payloadOf
+  add-naming e whole value = record { room = opened s refl 21 e refl (whole .enough); value = value }
+
+  -- 22 to 25
+  pub names-id : names (typeIn s) ≡ true → numberOf (part s 7 14) ≡ numberOf (messageIn s .id)
+  unfolding between
+  names-id named =
+      let low = in-range 22 25 (typeIn s) named .0 in
+      let high = in-range 22 25 (typeIn s) named .1 in
+      named-id (typeIn s) s (omega arith) (omega arith)
+
+  pub names-room : names (typeIn s) ≡ true → Whole s → 21 ≤ length s
+  unfolding between
+  names-room named whole =
+      let low = in-range 22 25 (typeIn s) named .0 in
+      let high = in-range 22 25 (typeIn s) named .1 in
+      named-room (typeIn s) s (omega arith) (omega arith) (whole .enough)
+
+  -- 26
+  pub top-room : typeIn s ≡ 26 → Whole s → 46 ≤ length s
+  unfolding payloadOf
+  top-room e whole = opened s refl 26 e refl (whole .enough)
+
+  pub top-topic : typeIn s ≡ 26 → insideOf (fieldsOf 26 s) .symbol ≡ topicOf (messageIn s)
+  unfolding insideOf fieldsOf messageOf layoutOf
+  top-topic e =
+      let top : insideOf (fieldsOf 26 s) .symbol ≡ topicOf (fieldsOf 26 s) = refl in
+      top ∙ ap (λ (j : ℕ). topicOf (fieldsOf j s)) (sym e)

@@ -17,15 +17,14 @@ use Rattle.book_index.proofs.Below.{order}
 use Rattle.message.specs.declared.kinds.Message.{Message}
 use Rattle.book.specs.Lookup.{isAt, placeFound, frontOf, backOf, keyFrom, keyAt, sameSymbol, pairFrom, symbolAt}
 use Rattle.book.specs.Tables.{Tables, blank, gone, idsOf, frontsOf, backsOf}
-use Rattle.book.specs.Applying.{messageIn, topicOf, seenOf, insideOf}
-use Rattle.book.specs.Asking.{noOrderFor, orderAsked, noInsideFor, insideAsked}
+use Rattle.book.specs.Applying.{Seen, messageIn, topicOf, seenOf, insideOf}
+use Rattle.book.specs.Asking.{noOrderFor, orderAsked, noInsideFor, insideAsked, insideFor}
 use Rattle.book.specs.Named.{firstThat, isThere, hasId, orderUnder, hasSymbol, insideUnder, orderReply, insideReply}
 use Rattle.book.specs.Rule.{Sound}
 use Rattle.book.specs.declared.lookup.Found.{Found}
 use Rattle.book.specs.declared.lookup.Found.the-variants.{At, Nothing}
 use Rattle.book.specs.declared.tables.Order.{Order}
 use Rattle.book.specs.declared.tables.Inside.{Inside}
-use Rattle.book.specs.declared.deciding.Seen.{Seen}
 use Rattle.book.specs.declared.asking.Reply.the-variants.{Known}
 use Rattle.book.proofs.Finding.{key-some, key-none, symbol-some, symbol-none}
 use Rattle.book.proofs.Keyed.{Nowhere, One, Says, says-here, says-on, says-map, pointed, said, said-at, said-none, there}
@@ -98,7 +97,7 @@ module _ (t : Tables) where
 
   -- the inside by symbol: likewise
   pub inside-answer : (symbol : List ℕ) → insideAsked t symbol ≡ cond (goodSymbol symbol) (insideReply (insideUnder t symbol)) (noInsideFor 12)
-  unfolding insideAsked insideUnder
+  unfolding insideFor insideUnder
   inside-answer symbol = by (goodSymbol symbol) refl
     where
       asked : (f : Found) → firstThat (hasSymbol symbol) (t .insides) ≡ pointed gone (t .insides) f

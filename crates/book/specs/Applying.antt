@@ -23,7 +23,6 @@ use Rattle.book.specs.declared.lookup.Found.{Found}
 use Rattle.book.specs.declared.tables.Order.{Order}
 use Rattle.book.specs.declared.tables.Inside.{Inside}
 use Rattle.book.specs.declared.tables.Faults.{Faults}
-use Rattle.book.specs.declared.deciding.Seen.{Seen}
 use Rattle.book.specs.declared.deciding.Effect.{Effect}
 use Rattle.book.specs.declared.deciding.Effect.the-variants.{Put, Replace, Remove, Renew, Enter, Record, Unchanged, Fault}
 
@@ -40,7 +39,16 @@ pub record Naming (n : ℕ) (s : List ℕ) (key : ℕ) : Type 0 where
   pub room : n ≤ length s
   pub value : key ≡ numberOf (part s 7 14)
 
--- what the tables hold of what a message names: the order of its id, and for a Top of Book the inside of its symbol
+-- what the tables hold of what a message names, the order of its id and for a Top of Book the inside of its symbol: how many
+-- orders are live, where the order is and its shares and price, how many insides are held and where the symbol's is
+pub record Seen : Type 0 where
+  pub live : ℕ
+  pub order : Found
+  pub shares : ℕ
+  pub price : ℕ
+  pub held : ℕ
+  pub inside : Found
+
 abbrev pub topicOf : Message → List ℕ
 topicOf m = cond (eqb (typeOf m) 26) (m .symbol) noText
 
@@ -90,11 +98,11 @@ faultsUnder rule seen m =
     ∷ []
 
 -- 24 and 25 subtract executed, and at zero the order leaves
-abbrev pub executionOf : Seen → ℕ → Effect
-executionOf seen executed =
-    cond (eqb (seen .shares - executed) 0)
-    (Remove (placeFound (seen .order)))
-    (Replace (placeFound (seen .order)) (seen .shares - executed) (seen .price))
+abbrev pub executionOf : Found → ℕ → ℕ → ℕ → Effect
+executionOf order shares price executed =
+    cond (eqb (shares - executed) 0)
+    (Remove (placeFound order))
+    (Replace (placeFound order) (shares - executed) price)
 
 -- what a message does where no fault holds; 27, 28, 9, 11 and 12 change nothing
 abbrev pub changeOf : Seen → Message → Effect
@@ -105,8 +113,8 @@ changeOf seen m =
     ∷ (21, Put)
     ∷ (22, Replace (placeFound (seen .order)) (n 2) (n 3))
     ∷ (23, Remove (placeFound (seen .order)))
-    ∷ (24, executionOf seen (n 2))
-    ∷ (25, executionOf seen (n 2))
+    ∷ (24, executionOf (seen .order) (seen .shares) (seen .price) (n 2))
+    ∷ (25, executionOf (seen .order) (seen .shares) (seen .price) (n 2))
     ∷ (26, cond (isAt (seen .inside)) (Renew (placeFound (seen .inside))) Enter)
     ∷ [])
     Unchanged

@@ -12,6 +12,7 @@ use Rattle.fields.specs.Rules.{goodSymbol, goodSide}
 use Rattle.book.specs.Lookup.{isAt, placeFound, keyAt, symbolAt, sameSymbol}
 use Rattle.book.specs.Tables.{Tables, blank, gone, noOrder, noInside, idsOf, frontsOf, backsOf}
 use Rattle.book.specs.declared.tables.Order.{Order}
+use Rattle.book.specs.declared.tables.Inside.{Inside}
 use Rattle.book.specs.declared.asking.Reply.the-variants.{Known, Refused}
 use Rattle.book.specs.declared.asking.Level.{Level}
 use Rattle.book.specs.declared.asking.OrderReply.{OrderReply}
@@ -37,14 +38,17 @@ orderAsked t id =
 abbrev pub noInsideFor : ℕ → InsideReply
 noInsideFor number = record { reply = Refused number; inside = noInside }
 
-unfoldable pub insideAsked : Tables → List ℕ → InsideReply
-insideAsked t symbol =
-    let found = symbolAt symbol (frontsOf (t .insides)) (backsOf (t .insides)) in
+unfoldable pub insideFor : List Inside → List ℕ → InsideReply
+insideFor held symbol =
+    let found = symbolAt symbol (frontsOf held) (backsOf held) in
     firstOf
     ((not (goodSymbol symbol), noInsideFor 12)
     ∷ (not (isAt found), noInsideFor 13)
     ∷ [])
-    (record { reply = Known; inside = getD (t .insides) (placeFound found) gone })
+    (record { reply = Known; inside = getD held (placeFound found) gone })
+
+abbrev pub insideAsked : Tables → List ℕ → InsideReply
+insideAsked t = insideFor (t .insides)
 
 -- ---- by symbol and side: the best price, the sum of shares there and the number of orders
 
@@ -105,14 +109,19 @@ abbrev pub noLevelFor : ℕ → BestReply
 noLevelFor number = record { reply = Refused number; level = noLevel }
 
 -- 12 for a bad symbol or side, 13 exactly if no such order is live
-unfoldable pub bestAsked : Tables → List ℕ → ℕ → BestReply
-bestAsked t symbol side =
-    let level = bestIn symbol side (t .orders) in
+unfoldable pub replyWith : Bool → Level → BestReply
+replyWith good level =
     firstOf
-    ((not (goodSymbol symbol && goodSide side), noLevelFor 12)
+    ((not good, noLevelFor 12)
     ∷ (eqb (level .orders) 0, noLevelFor 13)
     ∷ [])
     (record { reply = Known; level = level })
+
+unfoldable pub bestFor : List Order → List ℕ → ℕ → BestReply
+bestFor live symbol side = replyWith (goodSymbol symbol && goodSide side) (bestIn symbol side live)
+
+abbrev pub bestAsked : Tables → List ℕ → ℕ → BestReply
+bestAsked t = bestFor (t .orders)
 
 -- the sums so far are small enough for one order more: no sum of shares wraps
 pub record Room (level : Level) : Type 0 where

@@ -8,11 +8,10 @@ use lib.Dec.{eqb}
 use lib.ListN.{length, getD}
 pub use Rattle.book_index.specs.Chains.{Distinct}
 use Rattle.fields.specs.Rules.{goodSymbol, goodSide, goodQuantity, goodPrice, goodInsidePrice, goodUnsolicited, goodSession}
-use Rattle.book.specs.Tables.{Tables, idsOf, frontsOf, backsOf, rep, view, blank, noInside}
+use Rattle.book.specs.Tables.{Book, Tables, idsOf, frontsOf, backsOf, rep, view, blank, noInside}
 use Rattle.message.specs.Whole.{Whole}
 use Rattle.book.specs.declared.tables.Order.{Order}
 use Rattle.book.specs.declared.tables.Inside.{Inside}
-use Rattle.book.specs.declared.tables.Book.{Book}
 
 -- a live order: 1 share or more, a good side, symbol and price
 pub record GoodOrder (o : Order) : Type 0 where
@@ -24,6 +23,7 @@ pub record GoodOrder (o : Order) : Type 0 where
 
 pub record GoodInside (i : Inside) : Type 0 where
   pub symbol : goodSymbol (i .symbol) ≡ true
+  pub long : length (i .symbol) ≡ 14
   pub ask : goodInsidePrice (i .ask) ≡ true
   pub bid : goodInsidePrice (i .bid) ≡ true
   pub unsolicited : goodUnsolicited (i .unsolicited) ≡ true

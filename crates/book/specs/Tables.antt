@@ -7,7 +7,6 @@ use Rattle.book.specs.Lookup.{frontOf, backOf}
 use Rattle.book.specs.declared.tables.Order.{Order}
 use Rattle.book.specs.declared.tables.Inside.{Inside}
 use Rattle.book.specs.declared.tables.Faults.{Faults}
-use Rattle.book.specs.declared.tables.Book.{Book}
 
 -- what a session's tables mean: the live orders in the order of their places, the insides, the code, the faults
 pub record Tables : Type 0 where
@@ -62,6 +61,19 @@ frontsOf = map (λ i. frontOf (i .symbol))
 
 abbrev pub backsOf : List Inside → List ℕ
 backsOf = map (λ i. backOf (i .symbol))
+
+-- the tables as they lie in a session's memory: each in its places, beside the orders their id values, and beside the insides the two
+-- numbers of their symbols, which a look-up goes over
+pub record Book : Type 0 where
+  pub orders : List Order
+  pub keys : List ℕ
+  pub live : ℕ
+  pub insides : List Inside
+  pub fronts : List ℕ
+  pub backs : List ℕ
+  pub held : ℕ
+  pub code : ℕ
+  pub faults : Faults
 
 -- a book with the parts of one table other than they were, or the code and the faults
 abbrev pub holdingOrders : Book → List Order → List ℕ → ℕ → Book

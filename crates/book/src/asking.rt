@@ -1,22 +1,21 @@
-// What can be asked of a book. Beside a refusal the record is all zero.
-use crate::lookup::Found;
-use crate::lookup::find;
-use crate::lookup::look;
-use crate::lookup::same;
-use crate::tables::Book;
-use crate::tables::Faults;
+// The replies to what can be asked, and the best of a table. Beside a refusal the record is all zero.
+use crate::lookup::back;
+use crate::lookup::front;
 use crate::tables::Inside;
+use crate::tables::ORDERS;
 use crate::tables::Order;
 use crate::tables::no_inside;
 use crate::tables::no_order;
-use fields::id::IdValue;
-use fields::id::value;
 use fields::rules::good_side;
 use fields::rules::good_symbol;
 ghost use mathlib.Core.Path.{_≡_};
-ghost use Rattle.book.specs.Tables.{view};
-ghost use Rattle.book.specs.Rule.{Kept};
-ghost use Rattle.book.specs.Asking.{orderAsked, insideAsked, bestAsked, better as betterOf, Joins, isOf, noOrderFor, noInsideFor, noLevelFor, Room};
+ghost use mathlib.Core.Bool.{cond, _&&_};
+ghost use mathlib.Core.List.{List};
+ghost use Prim.Native.Nat.{ℕ, _≤_};
+ghost use lib.ListN.{length, take};
+ghost use Rattle.fields.specs.Rules.{goodSymbol, goodSide};
+ghost use Rattle.book.specs.Lookup.{frontOf, backOf};
+ghost use Rattle.book.specs.Asking.{bestFor, better as betterOf, Joins, isOf, noOrderFor, noInsideFor, noLevel, noLevelFor, replyWith, Room};
 
 // Refused: 12 where a rule is broken, 13 where there is none.
 pub enum Reply {
@@ -46,7 +45,7 @@ pub struct BestReply {
     pub level: Level,
 }
 
-fn no_order_for(number: u8) -> OrderReply
+pub fn no_order_for(number: u8) -> OrderReply
     ensures { λ r. ⌜ r ≡ noOrderFor number ⌝ }
 {
     let reply = Reply::Refused(number);
@@ -54,7 +53,7 @@ fn no_order_for(number: u8) -> OrderReply
     OrderReply { reply, order }
 }
 
-fn no_inside_for(number: u8) -> InsideReply
+pub fn no_inside_for(number: u8) -> InsideReply
     ensures { λ r. ⌜ r ≡ noInsideFor number ⌝ }
 {
     let reply = Reply::Refused(number);
@@ -62,46 +61,22 @@ fn no_inside_for(number: u8) -> InsideReply
     InsideReply { reply, inside }
 }
 
-fn no_level_for(number: u8) -> BestReply
-    ensures { λ r. ⌜ r ≡ noLevelFor number ⌝ }
+pub fn no_level() -> Level
+    ensures { λ r. ⌜ r ≡ noLevel ⌝ }
 {
-    let reply = Reply::Refused(number);
-    let level = Level {
+    Level {
         price: 0,
         shares: 0,
         orders: 0,
-    };
-    BestReply { reply, level }
-}
-
-pub fn order(book: Book, id: [u8; 14]) -> OrderReply
-    requires { ⌜ Kept book ⌝ }
-    ensures { λ r. ⌜ r ≡ orderAsked (view book) id ⌝ }
-{
-    let IdValue::Value(key) = value(id) else {
-        return no_order_for(12);
-    };
-    let Found::At(place) = find(&book.keys, book.live, key) else {
-        return no_order_for(13);
-    };
-    let reply = Reply::Known;
-    let order = book.orders[place];
-    OrderReply { reply, order }
-}
-
-pub fn inside(book: Book, symbol: [u8; 14]) -> InsideReply
-    requires { ⌜ Kept book ⌝ }
-    ensures { λ r. ⌜ r ≡ insideAsked (view book) symbol ⌝ }
-{
-    if !good_symbol(symbol) {
-        return no_inside_for(12);
     }
-    let Found::At(place) = look(&book.fronts, &book.backs, book.held, symbol) else {
-        return no_inside_for(13);
-    };
-    let reply = Reply::Known;
-    let inside = book.insides[place];
-    InsideReply { reply, inside }
+}
+
+pub fn no_level_for(number: u8) -> BestReply
+    ensures { λ r. ⌜ r ≡ noLevelFor number ⌝ }
+{
+    let reply = Reply::Refused(number);
+    let level = no_level();
+    BestReply { reply, level }
 }
 
 // Highest bid, lowest ask.
@@ -115,23 +90,26 @@ fn better(side: u8, price: u64, other: u64) -> bool
     }
 }
 
-fn belongs(order: Order, symbol: [u8; 14], side: u8) -> bool
-    ensures { λ r. ⌜ r ≡ isOf symbol side order ⌝ }
+// A symbol is told by its two numbers, which are worked out once for a whole table; the side is the cheapest test.
+fn belongs(first: u64, last: u64, side: u8, order: Order) -> bool
+    ensures { λ r. ⌜ ((symbol : List ℕ) → first ≡ frontOf symbol → last ≡ backOf symbol → r ≡ isOf symbol side order) ⌝ }
 {
-    let listed = order.symbol;
-    if same(listed, symbol) {
-        order.side == side
-    } else {
-        false
+    if order.side != side {
+        return false;
     }
+    let listed = order.symbol;
+    if front(listed) != first {
+        return false;
+    }
+    back(listed) == last
 }
 
 // One order more: the level it makes alone, the level with it, or the level as it was.
-fn join(symbol: [u8; 14], side: u8, order: Order, level: Level) -> Level
+pub fn join(first: u64, last: u64, side: u8, order: Order, level: Level) -> Level
     requires { ⌜ Room level ⌝ }
-    ensures { λ r. ⌜ Joins symbol side order level r ⌝ }
+    ensures { λ r. ⌜ ((symbol : List ℕ) → first ≡ frontOf symbol → last ≡ backOf symbol → Joins symbol side order level r) ⌝ }
 {
-    if !belongs(order, symbol, side) {
+    if !belongs(first, last, side, order) {
         return level;
     }
     let alone = Level {
@@ -155,26 +133,29 @@ fn join(symbol: [u8; 14], side: u8, order: Order, level: Level) -> Level
     level
 }
 
-pub fn best(book: Book, symbol: [u8; 14], side: u8) -> BestReply
-    requires { ⌜ Kept book ⌝ }
-    ensures { λ r. ⌜ r ≡ bestAsked (view book) symbol side ⌝ }
+pub fn good_question(symbol: [u8; 14], side: u8) -> bool
+    ensures { λ r. ⌜ r ≡ (goodSymbol symbol && goodSide side) ⌝ }
 {
-    if !good_symbol(symbol) {
-        return no_level_for(12);
+    if good_symbol(symbol) {
+        good_side(side)
+    } else {
+        false
     }
-    if !good_side(side) {
+}
+
+// How many orders are looked at: none for a bad question.
+pub fn due(good: bool, live: usize) -> usize
+    ensures { λ r. ⌜ r ≡ cond good live 0 ⌝ }
+{
+    if good { live } else { 0 }
+}
+
+// By the level of all live orders.
+pub fn reply_with(good: bool, level: Level) -> BestReply
+    ensures { λ r. ⌜ r ≡ replyWith good level ⌝ }
+{
+    if !good {
         return no_level_for(12);
-    }
-    let mut level = Level {
-        price: 0,
-        shares: 0,
-        orders: 0,
-    };
-    let mut k = book.live;
-    while 0 < k {
-        k -= 1;
-        let order = book.orders[k];
-        level = join(symbol, side, order, level);
     }
     if level.orders == 0 {
         return no_level_for(13);
@@ -183,15 +164,19 @@ pub fn best(book: Book, symbol: [u8; 14], side: u8) -> BestReply
     BestReply { reply, level }
 }
 
-// The code of the last Trading Session; 0 before the first.
-pub fn code(book: Book) -> u8
-    ensures { λ r. ⌜ r ≡ view book .code ⌝ }
+pub fn best(orders: [Order; ORDERS], live: usize, symbol: [u8; 14], side: u8) -> BestReply
+    requires { ⌜ (live ≤ 256) × (length orders ≡ 256) ⌝ }
+    ensures { λ r. ⌜ r ≡ bestFor (take live orders) symbol side ⌝ }
 {
-    book.code
-}
-
-pub fn faults(book: Book) -> Faults
-    ensures { λ r. ⌜ r ≡ view book .faults ⌝ }
-{
-    book.faults
+    let good = good_question(symbol, side);
+    let first = front(symbol);
+    let last = back(symbol);
+    let mut level = no_level();
+    let mut k = due(good, live);
+    while 0 < k {
+        k -= 1;
+        let order = orders[k];
+        level = join(first, last, side, order, level);
+    }
+    reply_with(good, level)
 }

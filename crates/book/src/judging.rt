@@ -1,8 +1,8 @@
 // What the field rules and the look-ups come to: the first fault that holds, or the change.
 use crate::deciding::Effect;
-use crate::deciding::Seen;
 use crate::lookup::Found;
-use crate::tables::Book;
+use crate::tables::INSIDES;
+use crate::tables::ORDERS;
 ghost use mathlib.Core.Path.{_≡_};
 ghost use mathlib.Core.Bool.{cond, not, _&&_};
 ghost use mathlib.Core.List.{[], _∷_};
@@ -29,7 +29,7 @@ pub fn added(good: bool, order: Found, live: usize) -> Effect
     if let Found::At(_) = order {
         return Effect::Fault(3);
     }
-    if Book::ORDERS <= live {
+    if ORDERS <= live {
         Effect::Fault(4)
     } else {
         Effect::Put
@@ -62,18 +62,23 @@ pub fn deleted(good: bool, order: Found) -> Effect
     Effect::Remove(place)
 }
 
-// 2, 5, 6, 7, or the execution.
-pub fn executed(good: bool, seen: Seen, executed: u32, remaining: u32) -> Effect
-    ensures { λ r. ⌜ r ≡ firstOf ((not good, Effect.Fault 2) ∷ (not (isAt (seen .order)), Effect.Fault 5) ∷ (ltb (seen .shares) executed, Effect.Fault 6) ∷ (not (eqb remaining (seen .shares - executed)), Effect.Fault 7) ∷ []) (executionOf seen executed) ⌝ }
+// 2, 5, 6, 7, or the execution of the order that has these shares and this price.
+pub fn executed(
+    good: bool,
+    order: Found,
+    shares: u32,
+    price: u64,
+    executed: u32,
+    remaining: u32,
+) -> Effect
+    ensures { λ r. ⌜ r ≡ firstOf ((not good, Effect.Fault 2) ∷ (not (isAt order), Effect.Fault 5) ∷ (ltb shares executed, Effect.Fault 6) ∷ (not (eqb remaining (shares - executed)), Effect.Fault 7) ∷ []) (executionOf order shares price executed) ⌝ }
 {
     if !good {
         return Effect::Fault(2);
     }
-    let order = seen.order;
     let Found::At(place) = order else {
         return Effect::Fault(5);
     };
-    let shares = seen.shares;
     if shares < executed {
         return Effect::Fault(6);
     }
@@ -84,7 +89,6 @@ pub fn executed(good: bool, seen: Seen, executed: u32, remaining: u32) -> Effect
     if left == 0 {
         return Effect::Remove(place);
     }
-    let price = seen.price;
     Effect::Replace(place, left, price)
 }
 
@@ -96,7 +100,7 @@ pub fn shown(good: bool, inside: Found, held: usize) -> Effect
         return Effect::Fault(2);
     }
     let Found::At(place) = inside else {
-        return if Book::INSIDES <= held {
+        return if INSIDES <= held {
             Effect::Fault(8)
         } else {
             Effect::Enter

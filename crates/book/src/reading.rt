@@ -11,11 +11,11 @@ ghost use lib.ListN.{length};
 ghost use Rattle.wire.specs.Number.{part};
 ghost use Rattle.fields.specs.Id.{digitTable, numberOf};
 ghost use Rattle.message.specs.Row.{fieldsOf};
-ghost use Rattle.message.specs.Whole.{Whole};
-ghost use Rattle.book.specs.Applying.{Naming, messageIn, topicOf, orderOf, insideOf};
+ghost use Rattle.book.specs.Applying.{Naming, orderOf, insideOf};
 
-// 21 to 25 begin as an Order Delete does: the time, then the id.
-fn key_at(digits: &[u8; 256], bytes: &[u8]) -> u64
+// The value of the id of 21 to 25, or NONE where it breaks the id's rule. They all begin as an Order Delete does:
+// the time, then the id.
+pub fn key_at(digits: &[u8; 256], bytes: &[u8]) -> u64
     requires { ⌜ (now digits ≡ digitTable) × (21 ≤ length (now bytes)) ⌝ }
     ensures { λ r. ⌜ r ≡ numberOf (part (now (bytes .entry)) 7 14) ⌝ }
 {
@@ -25,32 +25,6 @@ fn key_at(digits: &[u8; 256], bytes: &[u8]) -> u64
         IdValue::Value(key) => key,
         IdValue::Refused(_) => NONE,
     }
-}
-
-// The value of the id that a message names, or NONE where it names none or breaks the id's rule.
-pub fn key_of(digits: &[u8; 256], bytes: &[u8]) -> u64
-    requires { ⌜ (now digits ≡ digitTable) × Whole (now bytes) ⌝ }
-    ensures { λ r. ⌜ r ≡ numberOf (messageIn (now (bytes .entry)) .id) ⌝ }
-{
-    let kind = wire::u8_at(bytes, 2);
-    match kind {
-        21 | 22 | 23 | 24 | 25 => key_at(digits, bytes),
-        _ => NONE,
-    }
-}
-
-// The symbol of a Top of Book; all zero of any other message.
-pub fn topic_of(bytes: &[u8]) -> [u8; 14]
-    requires { ⌜ Whole (now bytes) ⌝ }
-    ensures { λ r. ⌜ r ≡ topicOf (messageIn (now (bytes .entry))) ⌝ }
-{
-    let kind = wire::u8_at(bytes, 2);
-    if kind == 26 {
-        let fields = layouts::top(bytes);
-        let symbol = fields.symbol;
-        return symbol;
-    }
-    [0u8; 14]
 }
 
 // The order that an Add makes.
@@ -82,9 +56,9 @@ pub fn inside_of(bytes: &[u8]) -> Inside
     Inside {
         ask: fields.ask,
         bid: fields.bid,
-        time: fields.time,
-        askvolume: fields.askvolume,
-        bidvolume: fields.bidvolume,
+        time: fields.time as u64,
+        askvolume: fields.askvolume as u64,
+        bidvolume: fields.bidvolume as u64,
         symbol,
         unsolicited: fields.unsolicited,
     }

@@ -1,8 +1,9 @@
-// The tables of one session, by value. A place that holds nothing is all zero.
+// The records of the tables. A place that holds nothing is all zero.
 ghost use mathlib.Core.Path.{_≡_};
-ghost use Rattle.book.specs.Tables.{fresh as freshTables, rep, noOrder, noInside};
+ghost use Rattle.book.specs.Tables.{noOrder, noInside};
 
 // A live order. The fields stand so that no padding comes between them.
+#[repr(C)]
 pub struct Order {
     pub id: u64,
     pub price: u64,
@@ -17,9 +18,9 @@ pub struct Order {
 pub struct Inside {
     pub ask: u64,
     pub bid: u64,
-    pub time: u32,
-    pub askvolume: u32,
-    pub bidvolume: u32,
+    pub time: u64,
+    pub askvolume: u64,
+    pub bidvolume: u64,
     pub symbol: [u8; 14],
     pub unsolicited: u8,
 }
@@ -28,51 +29,13 @@ pub struct Inside {
 pub struct Faults {
     pub number: u64,
     pub count: u64,
-    pub reason: u8,
+    pub reason: u64,
 }
 
-// Beside the orders stand their id values, and beside the insides two numbers of their symbols, each
-// in the same place: what a look-up goes over.
-pub struct Book {
-    pub orders: [Order; Book::ORDERS],
-    pub keys: [u64; Book::ORDERS],
-    pub live: usize,
-    pub insides: [Inside; Book::INSIDES],
-    pub fronts: [u64; Book::INSIDES],
-    pub backs: [u64; Book::INSIDES],
-    pub held: usize,
-    pub code: u8,
-    pub faults: Faults,
-}
+// How many orders can be live, and how many insides held.
+pub const ORDERS: usize = 256;
 
-impl Book {
-    pub const ORDERS: usize = 256;
-
-    pub const INSIDES: usize = 64;
-
-    pub fn fresh() -> Self
-        ensures { λ r. ⌜ r ≡ rep freshTables ⌝ }
-    {
-        let order = no_order();
-        let inside = no_inside();
-        let faults = Faults {
-            number: 0,
-            count: 0,
-            reason: 0,
-        };
-        Book {
-            orders: [order; Self::ORDERS],
-            keys: [0u64; Self::ORDERS],
-            live: 0,
-            insides: [inside; Self::INSIDES],
-            fronts: [0u64; Self::INSIDES],
-            backs: [0u64; Self::INSIDES],
-            held: 0,
-            code: 0,
-            faults,
-        }
-    }
-}
+pub const INSIDES: usize = 64;
 
 // Parts: what a place holds that is not used.
 pub fn no_order() -> Order

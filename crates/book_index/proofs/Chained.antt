@@ -50,6 +50,9 @@ pub length-by : (chains : List ℕ) → length (indexBy chains) ≡ 765
 unfolding indexBy
 length-by chains = length-table (cellOf (chainAt chains)) 0 765
 
+pub size-by : {index : List ℕ} (chains : List ℕ) → index ≡ indexBy chains → length index ≡ 765
+size-by chains is = ap length is ∙ length-by chains
+
 pub by-at : (chains : List ℕ) (cell : ℕ) → cell < 765 → getD (indexBy chains) cell 0 ≡ cellOf (chainAt chains) cell
 unfolding indexBy
 by-at chains cell h = getD-table (cellOf (chainAt chains)) 0 765 cell h ∙ ap (cellOf (chainAt chains)) (omega arith)

@@ -19,6 +19,9 @@ pub length-index : (ids : List ℕ) → length (indexOf ids) ≡ 765
 unfolding indexOf
 length-index ids = length-by (map chainOf ids)
 
+pub size-of : {index : List ℕ} (ids : List ℕ) → index ≡ indexOf ids → length index ≡ 765
+size-of ids is = ap length is ∙ length-index ids
+
 -- ---- no order is live
 
 empty-cell : (cell : ℕ) → cell < 765 → cellOf (chainAt []) cell ≡ 0

@@ -95,9 +95,6 @@ module _ {index ids : List ℕ} {n key : ℕ} {f : ℕ → ℕ} {v : ℕ} (x : S
         (λ q. read .free p l q (chain-live p m e))
         (λ q. w .free p q m e)
 
-    pub seek-most : at < 766
-    seek-most = let most : at ≤ cell = read .most in let within : cell < 765 = w .within in omega arith
-
     pub seek-none : at ≡ 0 → below f v n ≡ 0
     seek-none e =
         only f v (record { most = omega arith; there = λ l. absurd (omega arith); free = λ p l. none-from p (omega arith) })

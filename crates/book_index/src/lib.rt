@@ -5,6 +5,9 @@
 // key % 509 (specs/Chains.antt). A cell holds 1 more than the next place of its chain, or 0 at the
 // end. Along a chain the places fall, so every walk ends. An inside's key is its symbol's first
 // eight bytes (specs/Pairs.antt).
+//
+// An index and the keys beside it are parts of the room of numbers that a host lends: slices, whose
+// lengths the contracts' rules give.
 ghost use mathlib.Core.Path.{_≡_};
 ghost use mathlib.Core.List.{List, [], _∷_, _++_};
 ghost use Prim.Native.Nat.{ℕ, _+_, _<_};
@@ -31,7 +34,7 @@ fn head(key: u64) -> usize
 }
 
 // The place of a live key, plus 1; 0 where it is not live.
-pub fn find<'a>(index: &'a [u16; CELLS], keys: &'a [u64; PLACES], live: usize, key: u64) -> usize
+pub fn find<'a>(index: &'a [u64], keys: &'a [u64], live: usize, key: u64) -> usize
     requires { ⌜ Indexed (now index) (now keys) live ⌝ }
     ensures { λ r. ⌜ IsLast key (now (keys .entry)) live r ⌝ }
 {
@@ -51,9 +54,9 @@ pub fn find<'a>(index: &'a [u16; CELLS], keys: &'a [u64; PLACES], live: usize, k
 // The place of a symbol's inside, plus 1; 0 where none is held. Symbols that begin alike are on one
 // chain, so both numbers are compared.
 pub fn pair<'a>(
-    index: &'a [u16; CELLS],
-    fronts: &'a [u64; PAIRS],
-    backs: &'a [u64; PAIRS],
+    index: &'a [u64],
+    fronts: &'a [u64],
+    backs: &'a [u64],
     held: usize,
     first: u64,
     last: u64,
@@ -77,17 +80,17 @@ pub fn pair<'a>(
 }
 
 // A key comes, at the place behind the live ones.
-pub fn put(index: &mut [u16; CELLS], live: usize, key: u64)
+pub fn put(index: &mut [u64], live: usize, key: u64)
     requires { ⌜ ((ids : List ℕ) × Open (now index) ids live) ⌝ }
     ensures { λ _. ⌜ ((ids : List ℕ) → Open (now (index .entry)) ids live → now (index .exit) ≡ indexOf (ids ++ (key ∷ []))) ⌝ }
 {
     let cell = head(key);
     index[live] = index[cell];
-    index[cell] = (live + 1) as u16;
+    index[cell] = (live + 1) as u64;
 }
 
 // Of the cells behind a place, the first that is on a key's chain: it points at the place or past it.
-fn behind(index: &[u16; CELLS], key: u64, place: usize) -> usize
+fn behind(index: &[u64], key: u64, place: usize) -> usize
     requires { ⌜ ((chains : List ℕ) × (now index ≡ indexBy chains)) ⌝ }
     requires { ⌜ place < 256 ⌝ }
     ensures { λ r. ⌜ (r < 765) × ((chains : List ℕ) → now (index .entry) ≡ indexBy chains → Behind chains (chainOf key) place r) ⌝ }
@@ -103,7 +106,7 @@ fn behind(index: &[u16; CELLS], key: u64, place: usize) -> usize
 }
 
 // The last place leaves its chain, whose head points at it.
-fn pop(index: &mut [u16; CELLS], last: usize, key: u64)
+fn pop(index: &mut [u64], last: usize, key: u64)
     requires { ⌜ ((chains : List ℕ) × Last (now index) chains (chainOf key) last) ⌝ }
     ensures { λ _. ⌜ ((chains : List ℕ) → Last (now (index .entry)) chains (chainOf key) last → now (index .exit) ≡ indexBy (set chains last 509)) ⌝ }
 {
@@ -113,7 +116,7 @@ fn pop(index: &mut [u16; CELLS], last: usize, key: u64)
 }
 
 // A place leaves the chain of its key.
-fn unlink(index: &mut [u16; CELLS], place: usize, key: u64)
+fn unlink(index: &mut [u64], place: usize, key: u64)
     requires { ⌜ ((chains : List ℕ) × On (now index) chains (chainOf key) place) ⌝ }
     ensures { λ _. ⌜ ((chains : List ℕ) → On (now (index .entry)) chains (chainOf key) place → now (index .exit) ≡ indexBy (set chains place 509)) ⌝ }
 {
@@ -123,17 +126,17 @@ fn unlink(index: &mut [u16; CELLS], place: usize, key: u64)
 }
 
 // A place that is on no chain comes to that of a key.
-fn link(index: &mut [u16; CELLS], place: usize, key: u64)
+fn link(index: &mut [u64], place: usize, key: u64)
     requires { ⌜ ((chains : List ℕ) × Off (now index) chains place) ⌝ }
     ensures { λ _. ⌜ ((chains : List ℕ) → Off (now (index .entry)) chains place → now (index .exit) ≡ indexBy (set chains place (chainOf key))) ⌝ }
 {
     let cell = behind(index, key, place);
     index[place] = index[cell];
-    index[cell] = (place + 1) as u16;
+    index[cell] = (place + 1) as u64;
 }
 
 // The key at a place leaves, and the one at the last place takes its place.
-pub fn remove(index: &mut [u16; CELLS], last: usize, place: usize, gone: u64, moved: u64)
+pub fn remove(index: &mut [u64], last: usize, place: usize, gone: u64, moved: u64)
     requires { ⌜ ((ids : List ℕ) × Leaving (now index) ids last place gone moved) ⌝ }
     ensures { λ _. ⌜ ((ids : List ℕ) → Leaving (now (index .entry)) ids last place gone moved → now (index .exit) ≡ indexOf (without 0 place ids)) ⌝ }
 {

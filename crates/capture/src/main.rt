@@ -1,14 +1,17 @@
 // Replays a capture on standard input: a line a packet, then the gaps.
 mod lines;
 
+use book_room::room::Room;
 use records::HEAD;
 use session::asking;
 use session::packets;
 use session::state::Session;
 use text::input;
 use text::output;
+use window::places::Window;
 ghost use lib.ListN.{length};
-ghost use Rattle.session.specs.Meaning.{Ruled};
+ghost use Rattle.session.specs.Meaning.{held, Ruled};
+ghost use Rattle.session.specs.declared.state.Session.{Session as Table};
 ghost use Rattle.capture.specs.Replays.{Replays};
 
 // The session behind the records taken, how far they went, and whether a record has no mark.
@@ -19,44 +22,57 @@ struct Replayed {
 }
 
 // Before the first record a session is opened at its number.
-fn opened(session: Session, fresh: bool, held: &[u8]) -> Session
-    requires { ⌜ Ruled session ⌝ }
-    ensures { λ r. ⌜ Ruled r ⌝ }
+fn opened(
+    session: Session,
+    room: &mut Room,
+    window: &mut Window,
+    fresh: bool,
+    bytes: &[u8],
+) -> Session
+    requires { ⌜ Ruled (held session (now room) (now window)) ⌝ }
+    ensures { λ r. ⌜ Ruled (held r (now (room .exit)) (now (window .exit))) ⌝ }
 {
     if !fresh {
         return session;
     }
-    let size = records::size_at(held, 0);
+    let size = records::size_at(bytes, 0);
     if size < HEAD {
         return session;
     }
-    Session::open(records::number_of(&held[HEAD..size]))
+    let number = records::number_of(&bytes[HEAD..size]);
+    Session::open(number, room, window)
 }
 
-// Takes each whole record that is held, and prints its line.
-fn replay(session: Session, fresh: bool, held: &[u8]) -> Replayed
-    requires { ⌜ Ruled session ⌝ }
-    ensures { λ r. ⌜ Replays r (length (now (held .entry))) ⌝ }
+// Takes each whole record among the bytes, and prints its line.
+fn replay(
+    session: Session,
+    room: &mut Room,
+    window: &mut Window,
+    fresh: bool,
+    bytes: &[u8],
+) -> Replayed
+    requires { ⌜ Ruled (held session (now room) (now window)) ⌝ }
+    ensures { λ r. ⌜ Replays r (now (room .exit)) (now (window .exit)) (length (now (bytes .entry))) ⌝ }
 {
-    let mut session = opened(session, fresh, held);
+    let mut session = opened(session, room, window, fresh, bytes);
     let mut out = [0u8; 8192];
     let mut end: usize = 0;
     let mut at: usize = 0;
     loop {
-        let size = records::size_at(held, at);
+        let size = records::size_at(bytes, at);
         if size < HEAD {
             break;
         }
         let start = at + HEAD;
         at += size;
-        let taken = packets::take(session, &held[start..at]);
+        let taken = packets::take(session, room, window, &bytes[start..at]);
         session = taken.session;
         let answer = taken.answer;
         end = lines::place(&mut out, end);
-        end = lines::packet(&mut out, end, session.next, session.end, answer);
+        end = lines::packet(&mut out, end, asking::next(room), asking::end(room), answer);
     }
     output::write(&out, end);
-    let unmarked = records::unmarked(held, at);
+    let unmarked = records::unmarked(bytes, at);
     Replayed {
         session,
         at,
@@ -77,8 +93,8 @@ fn behind(start: u64, count: u64) -> u64 {
 }
 
 // A line for each run of missing numbers. 256 numbers have fewer runs than the loop has turns.
-fn gaps(session: Session)
-    requires { ⌜ Ruled session ⌝ }
+fn gaps(room: &Room, window: &Window)
+    requires { ⌜ ((session : Table) × Ruled (held session (now room) (now window))) ⌝ }
 {
     let mut out = [0u8; 8192];
     let mut end: usize = 0;
@@ -86,7 +102,7 @@ fn gaps(session: Session)
     let mut left: u8 = 255;
     while 0 < left {
         left -= 1;
-        let gap = asking::gap(session, from);
+        let gap = asking::gap(room, window, from);
         if gap.count == 0 {
             break;
         }
@@ -97,13 +113,13 @@ fn gaps(session: Session)
     output::write(&out, end);
 }
 
-fn finish(session: Session, cut: bool)
-    requires { ⌜ Ruled session ⌝ }
+fn finish(room: &Room, window: &Window, cut: bool)
+    requires { ⌜ ((session : Table) × Ruled (held session (now room) (now window))) ⌝ }
 {
     if cut {
         print(b"cut\n");
     }
-    gaps(session);
+    gaps(room, window);
 }
 
 // No record has been taken yet.
@@ -119,7 +135,9 @@ fn still(fresh: bool, at: usize) -> bool {
 fn main() {
     print(b"next end applied answer\n");
     let mut buf = [0u8; 131072];
-    let mut session = Session::open(0);
+    let mut room = [0u64; Session::ROOM];
+    let mut window = [0u8; Session::PLACES];
+    let mut session = Session::open(0, &mut room, &mut window);
     let mut fresh = true;
     let mut from: usize = 0;
     let mut to: usize = 0;
@@ -128,16 +146,16 @@ fn main() {
         turns -= 1;
         let got = input::more(&mut buf, from, to);
         if got == 0 {
-            finish(session, from < to);
+            finish(&room, &window, from < to);
             return;
         }
         to = to - from + got;
-        let replayed = replay(session, fresh, &buf[0..to]);
+        let replayed = replay(session, &mut room, &mut window, fresh, &buf[0..to]);
         session = replayed.session;
         from = replayed.at;
         fresh = still(fresh, from);
         if replayed.unmarked {
-            finish(session, true);
+            finish(&room, &window, true);
             return;
         }
     }

@@ -1,6 +1,6 @@
 -- Each call's contract determines its answer, and the later content of all memory that it was lent.
 -- Assumes nothing.
-use mathlib.Core.Path.{_≡_, refl, _∙_, sym}
+use mathlib.Core.Path.{_≡_, refl, ap, _∙_, sym}
 use base.Logic.{emp}
 use borrow.Fn.Claims.{AllOf}
 use borrow.Fn.Read.{Read, all-models, no-know, r-last}
@@ -8,6 +8,7 @@ use borrow.Fn.World.{Pr, World}
 use denote.Ref.{now}
 use Rattle.packet_reader.specs.Cursors.{lent}
 use Rattle.packet_reader.specs.Steps.{seen}
+use Rattle.session.specs.Meaning.{Held}
 use Rattle.fields.proofs.id.value.Reads as fields-value
 use Rattle.fields.proofs.id.good_id.Reads as fields-good-id
 use Rattle.fields.proofs.rules.good_symbol.Reads as fields-good-symbol
@@ -32,12 +33,7 @@ use Rattle.packet_reader.proofs.plain.stepped.Reads as reader-stepped
 use Rattle.packet_reader.proofs.read.open as reader-open
 use Rattle.packet_reader.proofs.read.refusal as reader-refusal
 use Rattle.packet_reader.proofs.read.step as reader-step
-use Rattle.book.proofs.tables.Book.fresh.Reads as book-fresh
-use Rattle.book.proofs.asking.order.Reads as book-order
 use Rattle.book.proofs.asking.best.Reads as book-best
-use Rattle.book.proofs.asking.inside.Reads as book-inside
-use Rattle.book.proofs.asking.code.Reads as book-code
-use Rattle.book.proofs.asking.faults.Reads as book-faults
 use Rattle.session.proofs.state.Session.open.Reads as session-open
 use Rattle.session.proofs.packets.take.Reads as session-take
 use Rattle.session.proofs.packets.burst.Reads as session-burst
@@ -167,37 +163,50 @@ reader-step-once κs reader both one other = once
 
 -- ---- book
 
-pub book-fresh-once : Once book-fresh.Post
-book-fresh-once κs a one other s t = once
-
-pub book-order-once : Once book-order.Post
-book-order-once κs a one other s t = once
-
 pub book-best-once : Once book-best.Post
 book-best-once κs a one other s t = once
 
-pub book-inside-once : Once book-inside.Post
-book-inside-once κs a one other s t = once
-
-pub book-code-once : Once book-code.Post
-book-code-once κs a one other s t = once
-
-pub book-faults-once : Once book-faults.Post
-book-faults-once κs a one other s t = once
-
 -- ---- session
 
+-- what is held behind a call is one, so the session in it is, and the room and the window that were lent
+session-of : {one other : Held} → one ≡ other → one .session ≡ other .session
+session-of = ap (λ (h : Held). h .session)
+
+room-of : {one other : Held} → one ≡ other → one .room ≡ other .room
+room-of = ap (λ (h : Held). h .room)
+
+window-of : {one other : Held} → one ≡ other → one .window ≡ other .window
+window-of = ap (λ (h : Held). h .window)
+
 pub session-open-once : Once session-open.Post
-session-open-once κs a one other s t p q = once (p .0) (q .0)
+session-open-once κs a one other s t p q = session-of (once (p .0) (q .0))
+
+pub session-open-room : (κs : _) (a : _) (one other : _) (s t : _) → session-open.Post κs a one s → session-open.Post κs a other t → now (s .1 .0) ≡ now (t .1 .0)
+session-open-room κs a one other s t p q = room-of (once (p .0) (q .0))
+
+pub session-open-window : (κs : _) (a : _) (one other : _) (s t : _) → session-open.Post κs a one s → session-open.Post κs a other t → now (s .1 .1 .0) ≡ now (t .1 .1 .0)
+session-open-window κs a one other s t p q = window-of (once (p .0) (q .0))
 
 pub session-take-once : Once session-take.Post
-session-take-once κs a one other s t p q = once (p .0) (q .0)
+session-take-once κs a one other s t p q = λ i. record { session = session-of (once (p .0) (q .0)) i; answer = once (p .1 .0) (q .1 .0) i }
+
+pub session-take-room : (κs : _) (a : _) (one other : _) (s t : _) → session-take.Post κs a one s → session-take.Post κs a other t → now (s .1 .0) ≡ now (t .1 .0)
+session-take-room κs a one other s t p q = room-of (once (p .0) (q .0))
+
+pub session-take-window : (κs : _) (a : _) (one other : _) (s t : _) → session-take.Post κs a one s → session-take.Post κs a other t → now (s .1 .1 .0) ≡ now (t .1 .1 .0)
+session-take-window κs a one other s t p q = window-of (once (p .0) (q .0))
 
 pub session-burst-once : Once session-burst.Post
-session-burst-once κs a one other s t p q = once (p .0) (q .0)
+session-burst-once κs a one other s t p q = λ i. record { session = session-of (once (p .0) (q .0)) i; count = once (p .1 .0) (q .1 .0) i }
 
-pub session-burst-memory : (κs : _) (a : _) (one other : _) (s t : _) → session-burst.Post κs a one s → session-burst.Post κs a other t → now (s .1 .1 .0) ≡ now (t .1 .1 .0)
-session-burst-memory κs a one other s t p q = once (p .1 .0) (q .1 .0)
+pub session-burst-room : (κs : _) (a : _) (one other : _) (s t : _) → session-burst.Post κs a one s → session-burst.Post κs a other t → now (s .1 .0) ≡ now (t .1 .0)
+session-burst-room κs a one other s t p q = room-of (once (p .0) (q .0))
+
+pub session-burst-window : (κs : _) (a : _) (one other : _) (s t : _) → session-burst.Post κs a one s → session-burst.Post κs a other t → now (s .1 .1 .0) ≡ now (t .1 .1 .0)
+session-burst-window κs a one other s t p q = window-of (once (p .0) (q .0))
+
+pub session-burst-answers : (κs : _) (a : _) (one other : _) (s t : _) → session-burst.Post κs a one s → session-burst.Post κs a other t → now (s .1 .1 .1 .1 .0) ≡ now (t .1 .1 .1 .1 .0)
+session-burst-answers κs a one other s t p q = once (p .1 .1 .0) (q .1 .1 .0)
 
 pub session-next-once : Once session-next.Post
 session-next-once κs a one other s t = once
@@ -226,7 +235,7 @@ session-gap-once κs a one other s t = once
 pub session-requests-once : Once session-requests.Post
 session-requests-once κs a one other s t p q = once (p .0) (q .0)
 
-pub session-requests-memory : (κs : _) (a : _) (one other : _) (s t : _) → session-requests.Post κs a one s → session-requests.Post κs a other t → now (s .1 .0) ≡ now (t .1 .0)
+pub session-requests-memory : (κs : _) (a : _) (one other : _) (s t : _) → session-requests.Post κs a one s → session-requests.Post κs a other t → now (s .1 .1 .0) ≡ now (t .1 .1 .0)
 session-requests-memory κs a one other s t p q = once (p .1) (q .1)
 
 -- ---- replay: `replay_burst` and `replay_ask` are left out. Their contracts bound what is written and do not fix it: they

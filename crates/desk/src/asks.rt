@@ -8,6 +8,7 @@ use book::asking::Reply;
 use book::tables::Faults;
 use book::tables::Inside;
 use book::tables::Order;
+use book_room::room::Room;
 use printing::answers::refusal;
 use printing::answers::refused;
 use printing::words::byte;
@@ -22,15 +23,18 @@ use session::state::Session;
 use text::number::parse;
 use text::words::word;
 use window::asking::Asked;
-ghost use Prim.Native.Nat.{_≤_};
-ghost use Rattle.session.specs.Meaning.{Ruled};
+use window::places::Window;
+ghost use Prim.Native.Nat.{ℕ, _≤_};
+ghost use mathlib.Core.List.{List};
+ghost use Rattle.session.specs.Meaning.{held, Ruled};
+ghost use Rattle.session.specs.declared.state.Session.{Session as Table};
 
 // `next`, `end`, the code and the count of faults; behind them the first fault, where there is one.
-pub fn state(session: Session) {
-    digits(asking::next(session));
-    number(asking::end(session));
-    byte(asking::code(session));
-    faults(asking::faults(session));
+pub fn state(room: &Room) {
+    digits(asking::next(room));
+    number(asking::end(room));
+    number(asking::code(room));
+    faults(asking::faults(room));
     end();
 }
 
@@ -38,19 +42,19 @@ fn faults(faults: Faults) {
     number(faults.count);
     if faults.count != 0 {
         number(faults.number);
-        byte(faults.reason);
+        number(faults.reason);
     }
 }
 
-pub fn order(session: Session, line: &[u8])
-    requires { ⌜ Ruled session ⌝ }
+pub fn order(session: Session, room: &Room, line: &[u8])
+    requires { ⌜ ((window : List ℕ) × Ruled (held session (now room) window)) ⌝ }
 {
     let id = text_of(word(line, 1));
     if !id.good {
         return bad();
     }
     let text = id.text;
-    order_of(asking::order(session, text));
+    order_of(asking::order(session, room, text));
 }
 
 fn order_of(answer: OrderReply) {
@@ -75,8 +79,8 @@ fn known(order: Order) {
     end();
 }
 
-pub fn best(session: Session, line: &[u8])
-    requires { ⌜ Ruled session ⌝ }
+pub fn best(session: Session, room: &Room, line: &[u8])
+    requires { ⌜ ((window : List ℕ) × Ruled (held session (now room) window)) ⌝ }
 {
     let symbol = text_of(word(line, 1));
     if !symbol.good {
@@ -87,7 +91,7 @@ pub fn best(session: Session, line: &[u8])
         return bad();
     }
     let text = symbol.text;
-    best_of(asking::best(session, text, side.value as u8));
+    best_of(asking::best(session, room, text, side.value as u8));
 }
 
 fn best_of(answer: BestReply) {
@@ -105,15 +109,15 @@ fn best_of(answer: BestReply) {
     }
 }
 
-pub fn inside(session: Session, line: &[u8])
-    requires { ⌜ Ruled session ⌝ }
+pub fn inside(room: &Room, line: &[u8])
+    requires { ⌜ ((session : Table) × (window : List ℕ) × Ruled (held session (now room) window)) ⌝ }
 {
     let symbol = text_of(word(line, 1));
     if !symbol.good {
         return bad();
     }
     let text = symbol.text;
-    inside_of(asking::inside(session, text));
+    inside_of(asking::inside(room, text));
 }
 
 fn inside_of(answer: InsideReply) {
@@ -126,37 +130,38 @@ fn inside_of(answer: InsideReply) {
 
 fn known_inside(inside: Inside) {
     put(b"inside");
-    small(inside.time);
+    number(inside.time);
     number(inside.ask);
-    small(inside.askvolume);
+    number(inside.askvolume);
     number(inside.bid);
-    small(inside.bidvolume);
+    number(inside.bidvolume);
     byte(inside.unsolicited);
     end();
 }
 
-pub fn requests(session: Session, line: &[u8])
-    requires { ⌜ Ruled session ⌝ }
+pub fn requests(room: &Room, window: &Window, line: &[u8])
+    requires { ⌜ ((session : Table) × Ruled (held session (now room) (now window))) ⌝ }
 {
-    let room = parse(word(line, 1), 2048);
-    if !room.good {
+    let size = parse(word(line, 1), 2048);
+    if !size.good {
         return bad();
     }
-    requests_in(session, room.value as usize);
+    requests_in(room, window, size.value as usize);
 }
 
-fn requests_in(session: Session, room: usize)
-    requires { ⌜ Ruled session × (room ≤ 2048) ⌝ }
+fn requests_in(room: &Room, window: &Window, size: usize)
+    requires { ⌜ ((session : Table) × Ruled (held session (now room) (now window))) ⌝ }
+    requires { ⌜ size ≤ 2048 ⌝ }
 {
     let mut buffer = [0xEEu8; 2048];
-    requested(session, &mut buffer[0..room]);
+    requested(room, window, &mut buffer[0..size]);
 }
 
 // The answer, then the buffer whole.
-fn requested(session: Session, buffer: &mut [u8])
-    requires { ⌜ Ruled session ⌝ }
+fn requested(room: &Room, window: &Window, buffer: &mut [u8])
+    requires { ⌜ ((session : Table) × Ruled (held session (now room) (now window))) ⌝ }
 {
-    asked(asking::requests(session, buffer));
+    asked(asking::requests(room, window, buffer));
     bytes(buffer);
     end();
 }

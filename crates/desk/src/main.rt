@@ -7,21 +7,23 @@ mod reads;
 mod walks;
 mod writes;
 
+use book_room::room::Room;
 use command::Command;
 use lines::Kind;
 use session::state::Session;
-ghost use Rattle.session.specs.Meaning.{Ruled};
+use window::places::Window;
+ghost use Rattle.session.specs.Meaning.{held, Ruled};
 
 // The commands that ask a session.
-fn ask(session: Session, command: Command, line: &[u8])
-    requires { ⌜ Ruled session ⌝ }
+fn ask(session: Session, room: &Room, window: &Window, command: Command, line: &[u8])
+    requires { ⌜ Ruled (held session (now room) (now window)) ⌝ }
 {
     match command {
-        Command::State => asks::state(session),
-        Command::Order => asks::order(session, line),
-        Command::Best => asks::best(session, line),
-        Command::Inside => asks::inside(session, line),
-        Command::Requests => asks::requests(session, line),
+        Command::State => asks::state(room),
+        Command::Order => asks::order(session, room, line),
+        Command::Best => asks::best(session, room, line),
+        Command::Inside => asks::inside(room, line),
+        Command::Requests => asks::requests(room, window, line),
         _ => plain(command, line),
     }
 }
@@ -40,28 +42,34 @@ fn plain(command: Command, line: &[u8]) {
 }
 
 // The session behind a line that was carried out.
-fn carry_out(session: Session, line: &[u8]) -> Session
-    requires { ⌜ Ruled session ⌝ }
-    ensures { λ r. ⌜ Ruled r ⌝ }
+fn carry_out(session: Session, room: &mut Room, window: &mut Window, line: &[u8]) -> Session
+    requires { ⌜ Ruled (held session (now room) (now window)) ⌝ }
+    ensures { λ r. ⌜ Ruled (held r (now (room .exit)) (now (window .exit))) ⌝ }
 {
     let command = command::of(line);
     match command {
-        Command::Open => moves::open(session, line),
-        Command::Take => moves::take(session, line),
+        Command::Open => moves::open(session, room, window, line),
+        Command::Take => moves::take(session, room, window, line),
         _ => {
-            ask(session, command, line);
+            ask(session, room, window, command, line);
             session
         }
     }
 }
 
 // The answer is written before the next line is waited for.
-fn respond(session: Session, kind: Kind, line: &[u8]) -> Session
-    requires { ⌜ Ruled session ⌝ }
-    ensures { λ r. ⌜ Ruled r ⌝ }
+fn respond(
+    session: Session,
+    room: &mut Room,
+    window: &mut Window,
+    kind: Kind,
+    line: &[u8],
+) -> Session
+    requires { ⌜ Ruled (held session (now room) (now window)) ⌝ }
+    ensures { λ r. ⌜ Ruled (held r (now (room .exit)) (now (window .exit))) ⌝ }
 {
     match kind {
-        Kind::Whole => carry_out(session, line),
+        Kind::Whole => carry_out(session, room, window, line),
         _ => {
             reads::bad();
             session
@@ -73,7 +81,9 @@ fn respond(session: Session, kind: Kind, line: &[u8]) -> Session
 // turns, far above the lines of any run, is what the proof ends by.
 fn main() {
     let mut buf = [0u8; 16384];
-    let mut session = Session::open(0);
+    let mut room = [0u64; Session::ROOM];
+    let mut window = [0u8; Session::PLACES];
+    let mut session = Session::open(0, &mut room, &mut window);
     let mut from: usize = 0;
     let mut to: usize = 0;
     let mut ended = false;
@@ -90,6 +100,6 @@ fn main() {
         if lines::is_none(kind) {
             return;
         }
-        session = respond(session, kind, &buf[start..stop]);
+        session = respond(session, &mut room, &mut window, kind, &buf[start..stop]);
     }
 }

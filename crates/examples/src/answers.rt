@@ -5,8 +5,8 @@ use book::asking::InsideReply;
 use book::asking::OrderReply;
 use book::asking::Reply;
 use book::tables::Faults;
+use book_room::room::Room;
 use printing::answers::refusal;
-use printing::words::byte;
 use printing::words::colon;
 use printing::words::end;
 use printing::words::number;
@@ -14,17 +14,17 @@ use printing::words::put;
 use printing::words::small;
 use session::asking;
 use session::packets::Answer;
-use session::packets::Taken;
 use session::state::Session;
-ghost use Rattle.session.specs.Meaning.{Ruled};
+ghost use Prim.Native.Nat.{ℕ};
+ghost use mathlib.Core.List.{List};
+ghost use Rattle.session.specs.Meaning.{held, Ruled};
 
 // The answer to a packet, then next and end.
-pub fn taken(label: &[u8], taken: Taken) {
+pub fn taken(label: &[u8], room: &Room, said: Answer) {
     put(label);
     colon();
-    let said = taken.answer;
     answer(said);
-    numbers(taken.session);
+    numbers(room);
     end();
 }
 
@@ -38,29 +38,29 @@ fn answer(answer: Answer) {
     }
 }
 
-pub fn numbers(session: Session) {
+pub fn numbers(room: &Room) {
     put(b", next");
-    number(asking::next(session));
+    number(asking::next(room));
     put(b", end");
-    number(asking::end(session));
+    number(asking::end(room));
 }
 
 // What the tables say: faults, the first order, the best bid and ask, the first inside.
-pub fn report(session: Session)
-    requires { ⌜ Ruled session ⌝ }
+pub fn report(session: Session, room: &Room)
+    requires { ⌜ ((window : List ℕ) × Ruled (held session (now room) window)) ⌝ }
 {
     colon();
-    orders(session);
-    inside(asking::inside(session, made::symbol_of(0)));
+    orders(session, room);
+    inside(asking::inside(room, made::symbol_of(0)));
 }
 
-fn orders(session: Session)
-    requires { ⌜ Ruled session ⌝ }
+fn orders(session: Session, room: &Room)
+    requires { ⌜ ((window : List ℕ) × Ruled (held session (now room) window)) ⌝ }
 {
-    faults(asking::faults(session));
-    order(asking::order(session, made::id_of(0)));
-    best(asking::best(session, *b"MSFTF         ", b'B'));
-    best(asking::best(session, *b"MSFTF         ", b'S'));
+    faults(asking::faults(room));
+    order(asking::order(session, room, made::id_of(0)));
+    best(asking::best(session, room, *b"MSFTF         ", b'B'));
+    best(asking::best(session, room, *b"MSFTF         ", b'S'));
 }
 
 fn faults(faults: Faults) {
@@ -70,7 +70,7 @@ fn faults(faults: Faults) {
         put(b", first");
         number(faults.number);
         put(b" by");
-        byte(faults.reason);
+        number(faults.reason);
     }
 }
 
@@ -117,7 +117,7 @@ fn inside(answer: InsideReply) {
     }
 }
 
-pub fn code(session: Session) {
+pub fn code(room: &Room) {
     put(b": code");
-    byte(asking::code(session));
+    number(asking::code(room));
 }

@@ -15,22 +15,25 @@ pub fn run() {
     burst(b"burst of three, 11 numbers: ", 11);
 }
 
-// The answers to three packets in the first `room` numbers of a list of 7.
-fn burst(label: &[u8], room: usize) {
+// The answers to three packets in the first `size` numbers of a list of 7.
+fn burst(label: &[u8], size: usize) {
     let packets = three();
     let mut list = [7u64; 12];
     put(label);
-    answered(&packets, &mut list, room);
+    answered(&packets, &mut list, size);
     listed(&list);
     end();
 }
 
-fn answered(packets: &[u8], list: &mut [u64], room: usize) {
-    if room <= list.len() {
-        let taken = packets::burst(Session::open(10), packets, &mut list[0..room]);
+fn answered(packets: &[u8], list: &mut [u64], size: usize) {
+    if size <= list.len() {
+        let mut room = [0u64; Session::ROOM];
+        let mut window = [0u8; Session::PLACES];
+        let session = Session::open(10, &mut room, &mut window);
+        let taken = packets::burst(session, &mut room, &mut window, packets, &mut list[0..size]);
         let count = taken.count;
         counted(count);
-        answers::numbers(taken.session);
+        answers::numbers(&room);
     }
 }
 

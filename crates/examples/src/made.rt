@@ -1,4 +1,5 @@
 // Messages and packets made for the cases.
+use book_room::room::Room;
 use examples_cases::rows::letter;
 use examples_cases::rows::number;
 use message::Body;
@@ -9,10 +10,12 @@ use packet::Header;
 use session::packets;
 use session::packets::Taken;
 use session::state::Session;
+use window::places::Window;
 ghost use mathlib.Core.Path.{_≡_};
 ghost use Prim.Native.Nat.{_≤_};
 ghost use lib.ListN.{length};
-ghost use Rattle.session.specs.Meaning.{Ruled};
+ghost use Rattle.session.specs.Meaning.{held, Ruled};
+ghost use Rattle.session.specs.declared.state.Session.{Session as Table};
 ghost use Rattle.examples.specs.Made.{addOf, deleteOf, executionOf, idOf, messageBy, namedOf, noMessage, symbolOf, toldOf, topOf, tradingOf, updateOf};
 
 // The id of the k-th order: its value is below 1,000 in base 36 with decimal digits.
@@ -180,32 +183,47 @@ fn packet_of(buf: &mut [u8], seq: u32, first: Message, second: Message) -> usize
 }
 
 // A packet handed to a session.
-fn handed(session: Session, packet: &[u8]) -> Taken
-    requires { ⌜ Ruled session ⌝ }
-    ensures { λ r. ⌜ Ruled (r .session) ⌝ }
+fn handed(session: Session, room: &mut Room, window: &mut Window, packet: &[u8]) -> Taken
+    requires { ⌜ Ruled (held session (now room) (now window)) ⌝ }
+    ensures { λ r. ⌜ Ruled (held (r .session) (now (room .exit)) (now (window .exit))) ⌝ }
 {
-    packets::take(session, packet)
+    packets::take(session, room, window, packet)
 }
 
 // Such a packet handed to a session.
-pub fn sent(session: Session, seq: u32, first: Message, second: Message) -> Taken
-    requires { ⌜ Ruled session ⌝ }
-    ensures { λ r. ⌜ Ruled (r .session) ⌝ }
+pub fn sent(
+    session: Session,
+    room: &mut Room,
+    window: &mut Window,
+    seq: u32,
+    first: Message,
+    second: Message,
+) -> Taken
+    requires { ⌜ Ruled (held session (now room) (now window)) ⌝ }
+    ensures { λ r. ⌜ Ruled (held (r .session) (now (room .exit)) (now (window .exit))) ⌝ }
 {
     let mut buf = [0u8; 256];
     let size = packet_of(&mut buf, seq, first, second);
-    handed(session, &buf[0..size])
+    handed(session, room, window, &buf[0..size])
 }
 
 // A packet of one message with a byte changed: what no writer would write.
-pub fn damaged(session: Session, seq: u32, m: Message, at: usize, byte: u8) -> Taken
-    requires { ⌜ Ruled session ⌝ }
-    ensures { λ r. ⌜ Ruled (r .session) ⌝ }
+pub fn damaged(
+    session: Session,
+    room: &mut Room,
+    window: &mut Window,
+    seq: u32,
+    m: Message,
+    at: usize,
+    byte: u8,
+) -> Taken
+    requires { ⌜ Ruled (held session (now room) (now window)) ⌝ }
+    ensures { λ r. ⌜ Ruled (held (r .session) (now (room .exit)) (now (window .exit))) ⌝ }
 {
     let mut buf = [0u8; 256];
     let size = packet_of(&mut buf, seq, m, none());
     set(&mut buf, at, byte);
-    handed(session, &buf[0..size])
+    handed(session, room, window, &buf[0..size])
 }
 
 fn set(buf: &mut [u8], at: usize, byte: u8) {
@@ -214,33 +232,42 @@ fn set(buf: &mut [u8], at: usize, byte: u8) {
     }
 }
 
-pub fn beat(session: Session, seq: u32) -> Taken
-    requires { ⌜ Ruled session ⌝ }
-    ensures { λ r. ⌜ Ruled (r .session) ⌝ }
+pub fn beat(session: Session, room: &mut Room, window: &mut Window, seq: u32) -> Taken
+    requires { ⌜ Ruled (held session (now room) (now window)) ⌝ }
+    ensures { λ r. ⌜ Ruled (held (r .session) (now (room .exit)) (now (window .exit))) ⌝ }
 {
     let mut buf = [0u8; 12];
     head(&mut buf, 12, seq, 1, 0);
-    handed(session, &buf)
+    handed(session, room, window, &buf)
 }
 
-// A session with so many orders, or so many insides.
-pub fn filled(kind: u8, count: u16) -> Session
-    ensures { λ r. ⌜ Ruled r ⌝ }
+// A fresh session over what was lent to another.
+pub fn fresh(room: &mut Room, window: &mut Window, number: u32) -> Session
+    requires { ⌜ ((session : Table) × Ruled (held session (now room) (now window))) ⌝ }
+    ensures { λ r. ⌜ Ruled (held r (now (room .exit)) (now (window .exit))) ⌝ }
 {
-    let mut session = Session::open(1);
+    Session::open(number, room, window)
+}
+
+// One with so many orders, or so many insides.
+pub fn filled(room: &mut Room, window: &mut Window, kind: u8, count: u16) -> Session
+    requires { ⌜ ((session : Table) × Ruled (held session (now room) (now window))) ⌝ }
+    ensures { λ r. ⌜ Ruled (held r (now (room .exit)) (now (window .exit))) ⌝ }
+{
+    let mut session = fresh(room, window, 1);
     let mut k: u16 = 0;
     while k < count {
-        session = then(session, k as u32 + 1, nth(kind, k));
+        session = then(session, room, window, k as u32 + 1, nth(kind, k));
         k += 1;
     }
     session
 }
 
-fn then(session: Session, seq: u32, m: Message) -> Session
-    requires { ⌜ Ruled session ⌝ }
-    ensures { λ r. ⌜ Ruled r ⌝ }
+fn then(session: Session, room: &mut Room, window: &mut Window, seq: u32, m: Message) -> Session
+    requires { ⌜ Ruled (held session (now room) (now window)) ⌝ }
+    ensures { λ r. ⌜ Ruled (held r (now (room .exit)) (now (window .exit))) ⌝ }
 {
-    let taken = sent(session, seq, m, none());
+    let taken = sent(session, room, window, seq, m, none());
     taken.session
 }
 

@@ -4,6 +4,7 @@
 use crate::answers;
 use crate::made;
 use crate::made::told;
+use book_room::room::Room;
 use examples_cases::rows;
 use examples_cases::rows::number;
 use printing::answers::refusal;
@@ -15,7 +16,9 @@ use session::asking;
 use session::packets::Taken;
 use session::state::Session;
 use window::asking::Asked;
-ghost use Rattle.session.specs.Meaning.{Ruled};
+use window::places::Window;
+ghost use Rattle.session.specs.Meaning.{held, Ruled};
+ghost use Rattle.session.specs.declared.state.Session.{Session as Table};
 
 pub fn run() {
     executions();
@@ -207,108 +210,124 @@ fn missing() {
 
 // Each line in turn.
 fn lines(table: &[u8]) {
-    let mut session = Session::open(0);
+    let mut room = [0u64; Session::ROOM];
+    let mut window = [0u8; Session::PLACES];
+    let mut session = Session::open(0, &mut room, &mut window);
     let mut from = 0;
     while from < table.len() {
         let stop = rows::find(table, from, b'\n');
-        session = step(session, &table[from..stop]);
+        session = step(session, &mut room, &mut window, &table[from..stop]);
         from = stop + 1;
     }
 }
 
-// By the first letter: open, fill, take, damage, beat, or a question.
-fn step(session: Session, line: &[u8]) -> Session
-    requires { ⌜ Ruled session ⌝ }
-    ensures { λ r. ⌜ Ruled r ⌝ }
+// By the first letter: open, fill, a packet, or a question.
+fn step(session: Session, room: &mut Room, window: &mut Window, line: &[u8]) -> Session
+    requires { ⌜ Ruled (held session (now room) (now window)) ⌝ }
+    ensures { λ r. ⌜ Ruled (held r (now (room .exit)) (now (window .exit))) ⌝ }
 {
     let n = (number(line, 1) % 4294967296) as u32;
     match rows::letter(line, 0) {
-        b'o' => Session::open(n),
-        b'f' => filled(n, line),
-        b't' => took(line, sent(session, n, line)),
-        b'd' => took(line, damaged(session, n, line)),
-        b'b' => took(line, made::beat(session, n)),
+        b'o' => made::fresh(room, window, n),
+        b'f' => filled(room, window, n, line),
+        b't' | b'd' | b'b' => took(session, room, window, n, line),
         _ => {
-            question(session, line);
+            question(session, room, window, line);
             session
         }
     }
 }
 
 // So many of a kind.
-fn filled(count: u32, line: &[u8]) -> Session
-    ensures { λ r. ⌜ Ruled r ⌝ }
+fn filled(room: &mut Room, window: &mut Window, count: u32, line: &[u8]) -> Session
+    requires { ⌜ ((session : Table) × Ruled (held session (now room) (now window))) ⌝ }
+    ensures { λ r. ⌜ Ruled (held r (now (room .exit)) (now (window .exit))) ⌝ }
 {
-    made::filled(rows::letter(line, 2), (count % 1000) as u16)
+    made::filled(room, window, rows::letter(line, 2), (count % 1000) as u16)
 }
 
-// One message or two.
-fn sent(session: Session, seq: u32, line: &[u8]) -> Taken
-    requires { ⌜ Ruled session ⌝ }
-    ensures { λ r. ⌜ Ruled (r .session) ⌝ }
+// A packet taken, and its answer where the line has a label.
+fn took(session: Session, room: &mut Room, window: &mut Window, n: u32, line: &[u8]) -> Session
+    requires { ⌜ Ruled (held session (now room) (now window)) ⌝ }
+    ensures { λ r. ⌜ Ruled (held r (now (room .exit)) (now (window .exit))) ⌝ }
 {
-    made::sent(session, seq, told(line, 2), told(line, 7))
-}
-
-// A place, a byte, and the message with that byte at that place of its packet.
-fn damaged(session: Session, seq: u32, line: &[u8]) -> Taken
-    requires { ⌜ Ruled session ⌝ }
-    ensures { λ r. ⌜ Ruled (r .session) ⌝ }
-{
-    let at = rows::place(line, 2);
-    let byte = (number(line, 3) % 256) as u8;
-    made::damaged(session, seq, told(line, 4), at, byte)
-}
-
-fn took(line: &[u8], taken: Taken) -> Session
-    requires { ⌜ Ruled (taken .session) ⌝ }
-    ensures { λ r. ⌜ Ruled r ⌝ }
-{
+    let taken = handed(session, room, window, n, line);
     let label = rows::label(line);
     if label.len() != 0 {
-        answers::taken(label, taken);
+        let answer = taken.answer;
+        answers::taken(label, room, answer);
     }
     taken.session
 }
 
+// By the first letter: take, damage, beat.
+fn handed(session: Session, room: &mut Room, window: &mut Window, n: u32, line: &[u8]) -> Taken
+    requires { ⌜ Ruled (held session (now room) (now window)) ⌝ }
+    ensures { λ r. ⌜ Ruled (held (r .session) (now (room .exit)) (now (window .exit))) ⌝ }
+{
+    match rows::letter(line, 0) {
+        b't' => sent(session, room, window, n, line),
+        b'd' => damaged(session, room, window, n, line),
+        _ => made::beat(session, room, window, n),
+    }
+}
+
+// One message or two.
+fn sent(session: Session, room: &mut Room, window: &mut Window, seq: u32, line: &[u8]) -> Taken
+    requires { ⌜ Ruled (held session (now room) (now window)) ⌝ }
+    ensures { λ r. ⌜ Ruled (held (r .session) (now (room .exit)) (now (window .exit))) ⌝ }
+{
+    made::sent(session, room, window, seq, told(line, 2), told(line, 7))
+}
+
+// A place, a byte, and the message with that byte at that place of its packet.
+fn damaged(session: Session, room: &mut Room, window: &mut Window, seq: u32, line: &[u8]) -> Taken
+    requires { ⌜ Ruled (held session (now room) (now window)) ⌝ }
+    ensures { λ r. ⌜ Ruled (held (r .session) (now (room .exit)) (now (window .exit))) ⌝ }
+{
+    let at = rows::place(line, 2);
+    let byte = (number(line, 3) % 256) as u8;
+    made::damaged(session, room, window, seq, told(line, 4), at, byte)
+}
+
 // By the first letter: gap, write the requests, report, code.
-fn question(session: Session, line: &[u8])
-    requires { ⌜ Ruled session ⌝ }
+fn question(session: Session, room: &Room, window: &Window, line: &[u8])
+    requires { ⌜ Ruled (held session (now room) (now window)) ⌝ }
 {
     put(rows::label(line));
     match rows::letter(line, 0) {
-        b'g' => gap(session, number(line, 1)),
-        b'w' => requests(session, rows::place(line, 1)),
-        b'r' => answers::report(session),
-        _ => answers::code(session),
+        b'g' => gap(room, window, number(line, 1)),
+        b'w' => requests(room, window, rows::place(line, 1)),
+        b'r' => answers::report(session, room),
+        _ => answers::code(room),
     }
     end();
 }
 
-fn gap(session: Session, from: u64)
-    requires { ⌜ Ruled session ⌝ }
+fn gap(room: &Room, window: &Window, from: u64)
+    requires { ⌜ ((session : Table) × Ruled (held session (now room) (now window))) ⌝ }
 {
-    let gap = asking::gap(session, from);
+    let gap = asking::gap(room, window, from);
     put(b":");
     printing::words::number(gap.start);
     printing::words::number(gap.count);
 }
 
-// The requests written to the first `room` bytes of a buffer of 0xEE.
-fn requests(session: Session, room: usize)
-    requires { ⌜ Ruled session ⌝ }
+// The requests written to the first `size` bytes of a buffer of 0xEE.
+fn requests(room: &Room, window: &Window, size: usize)
+    requires { ⌜ ((session : Table) × Ruled (held session (now room) (now window))) ⌝ }
 {
     colon();
     let mut buf = [0xEEu8; 24];
-    requested(session, &mut buf, room);
+    requested(room, window, &mut buf, size);
     bytes(&buf);
 }
 
-fn requested(session: Session, buf: &mut [u8], room: usize)
-    requires { ⌜ Ruled session ⌝ }
+fn requested(room: &Room, window: &Window, buf: &mut [u8], size: usize)
+    requires { ⌜ ((session : Table) × Ruled (held session (now room) (now window))) ⌝ }
 {
-    if room <= buf.len() {
-        asked(asking::requests(session, &mut buf[0..room]));
+    if size <= buf.len() {
+        asked(asking::requests(room, window, &mut buf[0..size]));
     }
 }
 

@@ -30,14 +30,15 @@ fn asked(asked: Asked) {
 }
 
 fn main() {
-    let session = Session::open(10);
+    let mut room = [0u64; Session::ROOM];
+    let mut window = [0u8; Session::PLACES];
+    let session = Session::open(10, &mut room, &mut window);
     let heartbeat = [0u8, 12, 0, 0, 0, 12, 1, 0, 0, 0, 0, 0];
-    let taken = packets::take(session, &heartbeat);
+    let taken = packets::take(session, &mut room, &mut window, &heartbeat);
     let answer = taken.answer;
     answered(answer);
-    let after = taken.session;
-    line(b"next ", asking::next(after));
-    line(b"end ", asking::end(after));
+    line(b"next ", asking::next(&room));
+    line(b"end ", asking::end(&room));
     let mut requests = [0u8; 12];
-    asked(asking::requests(after, &mut requests));
+    asked(asking::requests(&room, &window, &mut requests));
 }

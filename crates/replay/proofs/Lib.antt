@@ -1,2 +1,3 @@
 -- Laws of `replay`'s definitions.
 pub mod Told
+pub mod Tables

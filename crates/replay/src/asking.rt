@@ -1,10 +1,13 @@
 // The questions that a host can put, after a whole capture.
-ghost use Prim.Native.Nat.{_+_, _*_, _≤_};
+ghost use Prim.Native.Nat.{ℕ, _+_, _*_, _≤_};
+ghost use mathlib.Core.List.{List};
 ghost use lib.ListN.{length};
-ghost use Rattle.session.specs.Meaning.{Ruled};
+ghost use Rattle.session.specs.Meaning.{held, Ruled};
+ghost use Rattle.session.specs.declared.state.Session.{Session as Table};
 use crate::digest;
 use crate::whole;
 use book::asking::Reply;
+use book_room::room::Room;
 use session::asking::best;
 use session::asking::inside;
 use session::asking::order;
@@ -25,10 +28,10 @@ fn refusal(reply: Reply) -> u8 {
     }
 }
 
-fn order_told(session: Session, id: [u8; 14]) -> Told
-    requires { ⌜ Ruled session ⌝ }
+fn order_told(session: Session, room: &Room, id: [u8; 14]) -> Told
+    requires { ⌜ ((window : List ℕ) × Ruled (held session (now room) window)) ⌝ }
 {
-    let answer = order(session, id);
+    let answer = order(session, room, id);
     let reply = answer.reply;
     let found = answer.order;
     Told {
@@ -37,10 +40,10 @@ fn order_told(session: Session, id: [u8; 14]) -> Told
     }
 }
 
-fn inside_told(session: Session, symbol: [u8; 14]) -> Told
-    requires { ⌜ Ruled session ⌝ }
+fn inside_told(room: &Room, symbol: [u8; 14]) -> Told
+    requires { ⌜ ((session : Table) × (window : List ℕ) × Ruled (held session (now room) window)) ⌝ }
 {
-    let answer = inside(session, symbol);
+    let answer = inside(room, symbol);
     let reply = answer.reply;
     let found = answer.inside;
     Told {
@@ -49,10 +52,10 @@ fn inside_told(session: Session, symbol: [u8; 14]) -> Told
     }
 }
 
-fn best_told(session: Session, symbol: [u8; 14], side: u8) -> Told
-    requires { ⌜ Ruled session ⌝ }
+fn best_told(session: Session, room: &Room, symbol: [u8; 14], side: u8) -> Told
+    requires { ⌜ ((window : List ℕ) × Ruled (held session (now room) window)) ⌝ }
 {
-    let answer = best(session, symbol, side);
+    let answer = best(session, room, symbol, side);
     let reply = answer.reply;
     let level = answer.level;
     Told {
@@ -69,22 +72,24 @@ fn put(replies: &mut [u64], place: usize, told: Told)
 }
 
 // The four replies to one text, taken as an id and as a symbol: the order, the inside, the best bid, the best ask.
-fn row(session: Session, text: [u8; 14], replies: &mut [u64], place: usize)
-    requires { ⌜ Ruled session × (place + 8 ≤ length (now replies)) ⌝ }
+fn row(session: Session, room: &Room, text: [u8; 14], replies: &mut [u64], place: usize)
+    requires { ⌜ ((window : List ℕ) × Ruled (held session (now room) window)) ⌝ }
+    requires { ⌜ place + 8 ≤ length (now replies) ⌝ }
 {
+    let third = place + 4;
     let last = place + 6;
-    let found = order_told(session, text);
-    let inner = inside_told(session, text);
-    let bid = best_told(session, text, b'B');
-    let ask = best_told(session, text, b'S');
+    let found = order_told(session, room, text);
+    let inner = inside_told(room, text);
+    let bid = best_told(session, room, text, b'B');
+    let ask = best_told(session, room, text, b'S');
     put(replies, place, found);
     put(replies, place + 2, inner);
-    put(replies, place + 4, bid);
+    put(replies, third, bid);
     put(replies, last, ask);
 }
 
-fn ask(session: Session, texts: &[u8], replies: &mut [u64]) -> usize
-    requires { ⌜ Ruled session ⌝ }
+fn ask(session: Session, room: &Room, texts: &[u8], replies: &mut [u64]) -> usize
+    requires { ⌜ ((window : List ℕ) × Ruled (held session (now room) window)) ⌝ }
     ensures { λ r. ⌜ 8 * r ≤ length (now (replies .entry)) ⌝ }
 {
     let most = replies.len() / 8;
@@ -95,7 +100,7 @@ fn ask(session: Session, texts: &[u8], replies: &mut [u64]) -> usize
             return asked;
         }
         let text = wire::text14_at(texts, at);
-        row(session, text, replies, 8 * asked);
+        row(session, room, text, replies, 8 * asked);
         at += 14;
         asked += 1;
     }
@@ -130,9 +135,10 @@ pub extern "C" fn replay_ask(
 ) -> usize
     ensures { λ r. ⌜ 8 * r ≤ length (now (replies .entry)) ⌝ }
 {
+    let mut room = [0u64; Session::ROOM];
+    let mut window = [0u8; Session::PLACES];
     let each = packets.len();
-    let ran = whole::run(number, packets, each, answers);
-    let session = ran.session;
-    wanted(requests(session, buf), numbers);
-    ask(session, texts, replies)
+    let ran = whole::run(number, &mut room, &mut window, packets, each, answers);
+    wanted(requests(&room, &window, buf), numbers);
+    ask(ran.session, &room, texts, replies)
 }

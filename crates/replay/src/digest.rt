@@ -3,11 +3,15 @@
 ghost use mathlib.Core.Path.{_≡_};
 ghost use Prim.Native.Nat.{_<_, _≤_};
 ghost use lib.ListN.{length};
-ghost use Rattle.book.specs.Rule.{Kept};
 use book::asking::Level;
-use book::tables::Book;
 use book::tables::Inside;
 use book::tables::Order;
+use book_room::room::BACKS;
+use book_room::room::FRONTS;
+use book_room::room::ROW;
+use book_room::room::ROWS;
+use book_room::room::Room;
+use session::state::Session;
 
 // A digest with the lower 32 bits of a number behind it.
 fn mix(sum: u64, number: u64) -> u64
@@ -25,12 +29,19 @@ fn wide(sum: u64, number: u64) -> u64
     mix(mix(sum, number / 4294967296), number)
 }
 
-fn text(sum: u64, text: [u8; 14]) -> u64
+// A symbol by two numbers, as the room holds it: its first 8 bytes, and its last.
+fn front(symbol: [u8; 14]) -> u64 {
+    wire::u64_at(&symbol, 0)
+}
+
+fn back(symbol: [u8; 14]) -> u64 {
+    wire::u64_at(&symbol, 6)
+}
+
+fn text(sum: u64, front: u64, back: u64) -> u64
     requires { ⌜ sum < 4294967291 ⌝ }
     ensures { λ r. ⌜ r < 4294967291 ⌝ }
 {
-    let front = wire::u64_at(&text, 0);
-    let back = wire::u64_at(&text, 6);
     wide(wide(sum, front), back)
 }
 
@@ -48,7 +59,7 @@ pub fn order(order: Order) -> u64
 {
     let symbol = order.symbol;
     let mpid = order.firm;
-    let named = text(wide(1, order.id), symbol);
+    let named = text(wide(1, order.id), front(symbol), back(symbol));
     let priced = mix(wide(named, order.price), order.shares as u64);
     let sided = mix(firm(priced, mpid), order.side as u64);
     mix(sided, order.unsolicited as u64)
@@ -58,10 +69,42 @@ pub fn inside(inside: Inside) -> u64
     ensures { λ r. ⌜ r < 4294967291 ⌝ }
 {
     let symbol = inside.symbol;
-    let named = text(mix(2, inside.time as u64), symbol);
-    let asked = mix(wide(named, inside.ask), inside.askvolume as u64);
-    let bid = mix(wide(asked, inside.bid), inside.bidvolume as u64);
-    mix(bid, inside.unsolicited as u64)
+    let mark = inside.unsolicited as u64;
+    let row = [
+        inside.ask,
+        inside.bid,
+        inside.time,
+        inside.askvolume,
+        inside.bidvolume,
+        mark,
+    ];
+    quoted(front(symbol), back(symbol), row)
+}
+
+// An inside by its symbol's two numbers and its other six, as they lie in the room.
+fn quoted(front: u64, back: u64, row: [u64; ROW]) -> u64
+    ensures { λ r. ⌜ r < 4294967291 ⌝ }
+{
+    let named = text(mix(2, row[2]), front, back);
+    let asked = mix(wide(named, row[0]), row[3]);
+    let bid = mix(wide(asked, row[1]), row[4]);
+    mix(bid, row[5])
+}
+
+fn inside_at(room: &Room, place: usize) -> u64
+    requires { ⌜ place < 64 ⌝ }
+    ensures { λ r. ⌜ r < 4294967291 ⌝ }
+{
+    let at = ROWS + ROW * place;
+    let row = [
+        room[at],
+        room[at + 1],
+        room[at + 2],
+        room[at + 3],
+        room[at + 4],
+        room[at + 5],
+    ];
+    quoted(room[FRONTS + place], room[BACKS + place], row)
 }
 
 pub fn level(level: Level) -> u64
@@ -71,30 +114,29 @@ pub fn level(level: Level) -> u64
 }
 
 // Parts: of all live orders, and of all insides.
-pub fn orders(book: Book) -> u64
-    requires { ⌜ Kept book ⌝ }
+pub fn orders(session: Session, live: usize) -> u64
+    requires { ⌜ (live ≤ 256) × (length (session .orders) ≡ 256) ⌝ }
     ensures { λ r. ⌜ r < 4294967291 ⌝ }
 {
     let mut sum = 0;
-    let mut k = book.live;
+    let mut k = live;
     while 0 < k {
         k -= 1;
-        let found = book.orders[k];
+        let found = session.orders[k];
         sum = (sum + order(found)) % 4294967291;
     }
     sum
 }
 
-pub fn insides(book: Book) -> u64
-    requires { ⌜ Kept book ⌝ }
+pub fn insides(room: &Room, held: usize) -> u64
+    requires { ⌜ held ≤ 64 ⌝ }
     ensures { λ r. ⌜ r < 4294967291 ⌝ }
 {
     let mut sum = 0;
-    let mut k = book.held;
+    let mut k = held;
     while 0 < k {
         k -= 1;
-        let found = book.insides[k];
-        sum = (sum + inside(found)) % 4294967291;
+        sum = (sum + inside_at(room, k)) % 4294967291;
     }
     sum
 }

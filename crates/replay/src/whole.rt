@@ -1,12 +1,17 @@
 // A whole capture through a fresh session, in one call from outside: the session never crosses the border.
 ghost use Prim.Native.Nat.{_≤_, _*_};
 ghost use lib.ListN.{length};
-ghost use Rattle.session.specs.Meaning.{Ruled};
+ghost use Rattle.session.specs.Meaning.{held, Ruled, Sized};
+ghost use Rattle.replay.specs.Tables.{Tabled};
 use crate::digest;
+use book_room::room::HELD;
+use book_room::room::LIVE;
+use book_room::room::Room;
+use session::asking;
 use session::packets::Count;
 use session::packets::burst;
 use session::state::Session;
-use session::state::book_of;
+use window::places::Window;
 
 pub struct Ran {
     pub session: Session,
@@ -42,10 +47,19 @@ fn behind(packets: &[u8], from: usize, most: usize) -> usize
 
 // A part: a fresh session with all packets handed in, so many to a burst; none where a burst is of none. What does not
 // fit into the answers is not taken.
-pub fn run(number: u32, packets: &[u8], each: usize, answers: &mut [u64]) -> Ran
-    ensures { λ r. ⌜ Ruled (r .session) × (4 * r .packets ≤ length (now (answers .entry))) ⌝ }
+pub fn run(
+    number: u32,
+    room: &mut Room,
+    window: &mut Window,
+    packets: &[u8],
+    each: usize,
+    answers: &mut [u64],
+) -> Ran
+    requires { ⌜ Sized (now room) (now window) ⌝ }
+    ensures rule { λ r. ⌜ Ruled (held (r .session) (now (room .exit)) (now (window .exit))) ⌝ }
+    ensures count { λ r. ⌜ 4 * r .packets ≤ length (now (answers .entry)) ⌝ }
 {
-    let mut session = Session::open(number);
+    let mut session = Session::open(number, room, window);
     let mut at = 0;
     let mut place = 0;
     loop {
@@ -56,8 +70,14 @@ pub fn run(number: u32, packets: &[u8], each: usize, answers: &mut [u64]) -> Ran
                 packets: place / 4,
             };
         }
-        let room = (answers.len() - place) / 4;
-        let taken = burst(session, &packets[at..stop], &mut answers[place..]);
+        let most = (answers.len() - place) / 4;
+        let taken = burst(
+            session,
+            room,
+            window,
+            &packets[at..stop],
+            &mut answers[place..],
+        );
         session = taken.session;
         let count = taken.count;
         let Count::Packets(n) = count else {
@@ -66,7 +86,7 @@ pub fn run(number: u32, packets: &[u8], each: usize, answers: &mut [u64]) -> Ran
                 packets: place / 4,
             };
         };
-        if room < n {
+        if most < n {
             return Ran {
                 session,
                 packets: place / 4,
@@ -75,6 +95,25 @@ pub fn run(number: u32, packets: &[u8], each: usize, answers: &mut [u64]) -> Ran
         place += 4 * n;
         at = stop;
     }
+}
+
+// What the session ends with.
+fn tell(session: Session, room: &Room, ends: &mut [u64; 10])
+    requires { ⌜ Tabled session (now room) ⌝ }
+{
+    let faults = asking::faults(room);
+    let live = room[LIVE];
+    let held = room[HELD];
+    ends[0] = asking::next(room);
+    ends[1] = asking::end(room);
+    ends[2] = asking::code(room);
+    ends[3] = faults.count;
+    ends[4] = faults.number;
+    ends[5] = faults.reason;
+    ends[6] = live;
+    ends[7] = held;
+    ends[8] = digest::orders(session, live as usize);
+    ends[9] = digest::insides(room, held as usize);
 }
 
 // Four numbers answer each packet: how many messages were applied, the refusal or 0, next and end. What the session
@@ -90,19 +129,9 @@ pub extern "C" fn replay_burst(
 ) -> usize
     ensures { λ r. ⌜ 4 * r ≤ length (now (answers .entry)) ⌝ }
 {
-    let ran = run(number, packets, each, answers);
-    let session = ran.session;
-    let book = book_of(session);
-    let faults = book.faults;
-    ends[0] = session.next;
-    ends[1] = session.end;
-    ends[2] = book.code as u64;
-    ends[3] = faults.count;
-    ends[4] = faults.number;
-    ends[5] = faults.reason as u64;
-    ends[6] = book.live as u64;
-    ends[7] = book.held as u64;
-    ends[8] = digest::orders(book);
-    ends[9] = digest::insides(book);
+    let mut room = [0u64; Session::ROOM];
+    let mut window = [0u8; Session::PLACES];
+    let ran = run(number, &mut room, &mut window, packets, each, answers);
+    tell(ran.session, &room, ends);
     ran.packets
 }

@@ -8,7 +8,7 @@ use Prim.Native.Nat.{ℕ, zero, suc, _+_, _-_, _*_, _/_, _%_, _≤_, _<_, min, m
 use native.Mathlib.Omega.{arith}
 use borrow.Author.Tests.{eq-eqb, le-leb, le-ltb, leb-false, leb-true, lt-leb, lt-ltb, ne-eqb}
 use lib.Dec.{eqb, leb, ltb}
-use lib.ListN.{length, getD, replicate, take, length-map}
+use lib.ListN.{length, getD, replicate, set, take, length-map}
 use Rattle.wire.specs.Number.{Bytes, part, splice}
 use Rattle.wire.proofs.Place.{part-all, part-bytes, splice-none}
 use Rattle.merge.specs.State.{opened, takeAll, takeOne}
@@ -22,28 +22,25 @@ use Rattle.window.specs.Runs.{IsRun, closed, firstFrom, limitOf, missingIn, run
 use Rattle.window.specs.Window.{placeOf, placesFrom, sizeAt, startOf, waitsAt, windowOf, zeros}
 use Rattle.window.specs.declared.missing.Gap.{Gap}
 use Rattle.window.proofs.Firsts.{Between, first-between}
-use Rattle.book.specs.Rule.{Kept}
-use Rattle.book.specs.Tables as book
-use Rattle.book.specs.Tables.{fresh, noInside, noOrder, places}
+use Rattle.book.specs.Tables.{noInside, noOrder, places}
 use Rattle.book.specs.declared.tables.Order.{Order}
-use Rattle.book.specs.declared.tables.Inside.{Inside}
+use Rattle.book_index.specs.Chains.{indexOf}
+use Rattle.book_room.specs.Room.{partsOf}
+use Rattle.book_room.specs.Room.{rowsOf as insideRows}
 use Rattle.window_taking.specs.Keeping.{waitingOf, windowFor}
 use Rattle.window_taking.specs.Taking.{bytesAt, takeTests, waitTests}
-use Rattle.window_taking.specs.Turns.{burstFrom, framesOf, packetsIn, packetsOf}
+use Rattle.window_taking.specs.Turns.{framesOf, packetsOf}
 use Rattle.window_taking.proofs.Windows.{waits-place}
-use Rattle.session.specs.Meaning.{AllBytes, Ruled, Meaning, bookIn, feed, overnight, rep, sessionOf, view}
+use Rattle.session.specs.Meaning.{AllBytes, Held, Ruled, Meaning, endIn, feed, held, nextIn, overnight, rep, view}
 use Rattle.book_index.proofs.Laws.{index-empty}
-use Rattle.session.specs.Asking.{gapFrom, gapsOf, lacks, limit, missing, placed}
-use Rattle.session.specs.Bursts.{answerOf, answered, answersAfter, burstOf, countIf, refusalOf, rowOf, rowsOf, takenOf}
+use Rattle.session.specs.Asking.{gapFrom, gapsOf, lacks, limit, lineIn, missing, placed}
+use Rattle.session.specs.Bursts.{answerOf, answered, answersAfter, burstOf, countIf, countOf, refusalOf, rowOf, rowsOf}
 use Rattle.session.specs.Bursts.{Runs}
 use Rattle.session.specs.declared.packets.Answer.{Answer}
 use Rattle.session.specs.declared.packets.Answer.the-variants.{Applied, Refused}
 use Rattle.session.specs.declared.packets.Count.{Count}
 use Rattle.session.specs.declared.packets.Count.the-variants as count
-use Rattle.session.specs.declared.packets.Taken.{Taken}
-use Rattle.session.specs.declared.packets.TakenAll.{TakenAll}
-use Rattle.session.specs.declared.state.Session.{Session}
-use Rattle.session.proofs.States.{kept, ruled-more, stands}
+use Rattle.session.proofs.States.{ruled-more, stands}
 
 -- ---- an opening
 
@@ -58,18 +55,23 @@ all-free p (suc n) =
     let e : suc n * 128 ≡ 128 + n * 128 = omega arith in
     ap (λ (k : ℕ). replicate k 0) e ∙ sym (replicate-more 128 (n * 128) 0) ∙ ap (λ (l : List ℕ). replicate 128 0 ++ l) (all-free (suc p) n)
 
-pub opens-fresh : (n : ℕ) → sessionOf (book.rep fresh) (replicate 765 0) (replicate 765 0) (replicate 32768 0) n n ≡ rep (opened feed n)
-unfolding opened windowFor windowOf
-opens-fresh n = λ i. sessionOf (book.rep fresh) (sym index-empty i) (sym index-empty i) (all-free 0 256 i) n n
+-- the numbers of an opened room: next and end, and no other
+zeros-more : (a b : ℕ) {l : List ℕ} → l ≡ replicate b 0 → replicate a 0 ++ l ≡ replicate (a + b) 0
+zeros-more a b e = ap (λ (k : List ℕ). replicate a 0 ++ k) e ∙ replicate-more a b 0
 
-pub opened-with : (n : ℕ) {order : Order} {inside : Inside} → order ≡ noOrder → inside ≡ noInside
-    → _≡_ {A = Session}
-    (record { orders = replicate 256 order; keys = replicate 256 0; insides = replicate 64 inside; fronts = replicate 64 0; backs = replicate 64 0; live = 0; held = 0; next = n; end = n; faults = record { number = 0; count = 0; reason = 0 }; index = replicate 765 0; symbols = replicate 765 0; code = 0; window = replicate 32768 0 })
-    (rep (opened feed n))
-unfolding places
-opened-with n o i = (λ j. record { orders = replicate 256 (o j); keys = replicate 256 0; insides = replicate 64 (i j); fronts = replicate 64 0; backs = replicate 64 0; live = 0; held = 0; next = n; end = n; faults = record { number = 0; count = 0; reason = 0 }; index = replicate 765 0; symbols = replicate 765 0; code = 0; window = replicate 32768 0 }) ∙ opens-fresh n
+pub opened-with : (n : ℕ) {order : Order} {room window : List ℕ} → order ≡ noOrder → room ≡ replicate 2306 0 → window ≡ replicate 32768 0
+    → held (record { orders = replicate 256 order }) (set (set room 0 n) 1 n) window ≡ rep (opened feed n)
+unfolding opened windowFor windowOf places partsOf insideRows
+opened-with n {order} {room} {window} o r w =
+    let rows : insideRows (replicate 64 noInside) ≡ replicate 384 0 = refl in
+    let backs : replicate 64 0 ++ insideRows (replicate 64 noInside) ≡ replicate 448 0 = zeros-more 64 384 rows in
+    let fronts : replicate 64 0 ++ (replicate 64 0 ++ insideRows (replicate 64 noInside)) ≡ replicate 512 0 = zeros-more 64 448 backs in
+    let symbols : indexOf [] ++ (replicate 64 0 ++ (replicate 64 0 ++ insideRows (replicate 64 noInside))) ≡ replicate 1277 0 = ap (λ (l : List ℕ). l ++ (replicate 64 0 ++ (replicate 64 0 ++ insideRows (replicate 64 noInside)))) index-empty ∙ zeros-more 765 512 fronts in
+    let index : indexOf [] ++ (indexOf [] ++ (replicate 64 0 ++ (replicate 64 0 ++ insideRows (replicate 64 noInside)))) ≡ replicate 2042 0 = ap (λ (l : List ℕ). l ++ (indexOf [] ++ (replicate 64 0 ++ (replicate 64 0 ++ insideRows (replicate 64 noInside))))) index-empty ∙ zeros-more 765 1277 symbols in
+    let keys : replicate 256 0 ++ (indexOf [] ++ (indexOf [] ++ (replicate 64 0 ++ (replicate 64 0 ++ insideRows (replicate 64 noInside))))) ≡ replicate 2298 0 = zeros-more 256 2042 index in
+    λ i. held (record { orders = replicate 256 (o i) }) ((ap (λ (l : List ℕ). set (set l 0 n) 1 n) r ∙ ap (λ (l : List ℕ). n ∷ n ∷ 0 ∷ 0 ∷ 0 ∷ 0 ∷ 0 ∷ 0 ∷ l) (sym keys)) i) ((w ∙ all-free 0 256) i)
 
-pub rule-of : {s t : Session} → s ≡ t → Ruled t → Ruled s
+pub rule-of : {s t : Held} → s ≡ t → Ruled t → Ruled s
 rule-of e r = subst Ruled (sym e) r
 
 -- ---- one packet
@@ -117,7 +119,7 @@ refusal-small x s =
     (few-more 10 (packetTests s) (unlessHeartbeat (header.heartbeat (headerIn s .flag)) (waitTests x s)) (packet-few 10 s refl refl)
     (few-unless 10 (header.heartbeat (headerIn s .flag)) (waitTests x s) refl))
 
-one-packet : (s : List ℕ) → packetsOf true s ≡ s ∷ []
+pub one-packet : (s : List ℕ) → packetsOf true s ≡ s ∷ []
 one-packet s = ap (λ (l : List ℕ). l ∷ []) (part-all s)
 
 pub one-runs : (s : List ℕ) → Runs true s 1 4
@@ -131,13 +133,12 @@ module _ (x : Meaning) (s : List ℕ) {l : List ℕ} (rows : l ≡ splice (0 ∷
   pub told-refusal : getD l 1 0 ≤ 255
   told-refusal = subst (λ (k : List ℕ). getD k 1 0 ≤ 255) (sym four) (omega (arith, refusal-small x s))
 
-  pub taken-is : {after : Session} {answer : Answer} → after ≡ rep (takeAll overnight x (take 1 (packetsOf true s))) → answer ≡ answered (getD l 0 0) (getD l 1 0)
-      → _≡_ {A = Taken} (record { session = after; answer = answer }) (takenOf x s)
+  pub taken-is : {after : Held} → after ≡ rep (takeAll overnight x (take 1 (packetsOf true s))) → after ≡ rep (takeOne overnight x s)
   unfolding takeAll
-  taken-is {after} {answer} sessions answers =
-      let a : after ≡ rep (takeOne overnight x s) = sessions ∙ ap (λ (ps : List (List ℕ)). rep (takeAll overnight x ps)) (one-packet s) in
-      let b : answer ≡ answerOf x s = answers ∙ ap (λ (k : List ℕ). answered (getD k 0 0) (getD k 1 0)) four in
-      λ i. record { session = a i; answer = b i }
+  taken-is e = e ∙ ap (λ (ps : List (List ℕ)). rep (takeAll overnight x ps)) (one-packet s)
+
+  pub answer-is : {answer : Answer} → answer ≡ answered (getD l 0 0) (getD l 1 0) → answer ≡ answerOf x s
+  answer-is e = e ∙ ap (λ (k : List ℕ). answered (getD k 0 0) (getD k 1 0)) four
 
 pub answer-none : (applied refusal : ℕ) → refusal ≡ 0 → Applied applied ≡ answered applied refusal
 unfolding answered
@@ -157,85 +158,88 @@ take-all : (ss : List (List ℕ)) → take (length ss) ss ≡ ss
 take-all [] = refl
 take-all (s ∷ ss) = ap (λ (l : List (List ℕ)). s ∷ l) (take-all ss)
 
-length-packets : (s : List ℕ) → length (packetsIn s) ≡ length (burstFrom (length s) 0 s)
-length-packets s = length-map (burstFrom (length s) 0 s) (bytesAt s)
+length-packets : (single : Bool) (s : List ℕ) → length (packetsOf single s) ≡ length (framesOf single s)
+length-packets single s = length-map (framesOf single s) (bytesAt s)
 
-module _ (session : Session) (s : List ℕ) (answers : List ℕ) {n : ℕ} (all : n ≡ length (burstFrom (length s) 0 s)) where
-  packets-are : length (packetsIn s) ≡ n
-  packets-are = length-packets s ∙ sym all
+module _ (x : Meaning) (single : Bool) (s : List ℕ) (answers : List ℕ) {n : ℕ} (all : n ≡ length (framesOf single s)) where
+  pub packets-are : length (packetsOf single s) ≡ n
+  packets-are = length-packets single s ∙ sym all
 
   -- the answers fit, and all are taken; or they do not, and none is
   module _ {fits : Bool} (test : fits ≡ leb n (length answers / 4)) {due : ℕ} (dues : due ≡ cond fits n 0) where
-    short-by : (b : Bool) → leb n (length answers / 4) ≡ b → ltb (length answers) (4 * length (packetsIn s)) ≡ not b
-    short-by true e = le-ltb (length answers) (4 * length (packetsIn s)) (omega (arith, packets-are, leb-true n (length answers / 4) e))
-    short-by false e = lt-ltb (length answers) (4 * length (packetsIn s)) (omega (arith, packets-are, leb-false n (length answers / 4) e))
+    short-by : (b : Bool) → leb n (length answers / 4) ≡ b → ltb (length answers) (4 * length (packetsOf single s)) ≡ not b
+    short-by true e = le-ltb (length answers) (4 * length (packetsOf single s)) (omega (arith, packets-are, leb-true n (length answers / 4) e))
+    short-by false e = lt-ltb (length answers) (4 * length (packetsOf single s)) (omega (arith, packets-are, leb-false n (length answers / 4) e))
 
-    short : ltb (length answers) (4 * length (packetsIn s)) ≡ not fits
+    pub short : ltb (length answers) (4 * length (packetsOf single s)) ≡ not fits
     short = short-by (leb n (length answers / 4)) refl ∙ ap not (sym test)
 
-    due-by : (b : Bool) → fits ≡ b → take due (packetsIn s) ≡ cond b (packetsIn s) []
-    due-by true e = ap (λ (k : ℕ). take k (packetsIn s)) (dues ∙ ap (λ (c : Bool). cond c n 0) e ∙ sym packets-are) ∙ take-all (packetsIn s)
-    due-by false e = ap (λ (k : ℕ). take k (packetsIn s)) (dues ∙ ap (λ (c : Bool). cond c n 0) e)
+    due-by : (b : Bool) → fits ≡ b → take due (packetsOf single s) ≡ cond b (packetsOf single s) []
+    due-by true e = ap (λ (k : ℕ). take k (packetsOf single s)) (dues ∙ ap (λ (c : Bool). cond c n 0) e ∙ sym packets-are) ∙ take-all (packetsOf single s)
+    due-by false e = ap (λ (k : ℕ). take k (packetsOf single s)) (dues ∙ ap (λ (c : Bool). cond c n 0) e)
 
-    pub burst-runs : length answers ≤ 18446744073709551615 → Runs false s due (length answers)
+    pub burst-runs : length answers ≤ 18446744073709551615 → Runs single s due (length answers)
     burst-runs big = go fits refl
       where
-        go : (b : Bool) → fits ≡ b → Runs false s due (length answers)
+        go : (b : Bool) → fits ≡ b → Runs single s due (length answers)
         go true e =
             let d : due ≡ n = dues ∙ ap (λ (c : Bool). cond c n 0) e in
             record { all = omega (arith, d, all); room = omega (arith, d, leb-true n (length answers / 4) (sym test ∙ e)); big = big }
         go false e = let d : due ≡ 0 = dues ∙ ap (λ (c : Bool). cond c n 0) e in record { all = omega (arith, d); room = omega (arith, d); big = big }
 
-    pub burst-is : {after : Session} {told : Count} → after ≡ rep (takeAll overnight (view session) (take due (packetsIn s))) → told ≡ countIf fits n
-        → _≡_ {A = TakenAll} (record { session = after; count = told }) (burstOf (view session) (packetsIn s) (length answers))
+    pub burst-is : {after : Held} → after ≡ rep (takeAll overnight x (take due (packetsOf single s))) → after ≡ rep (burstOf x (packetsOf single s) (length answers))
     unfolding burstOf takeAll
-    burst-is {after} {told} sessions counts = go fits refl
+    burst-is {after} is = go fits refl
       where
-        chosen : (b : Bool) → TakenAll
-        chosen b = cond b (record { session = rep (view session); count = count.Refused 11 }) (record { session = rep (takeAll overnight (view session) (packetsIn s)); count = count.Packets (length (packetsIn s)) })
+        chosen : (b : Bool) → Held
+        chosen b = rep (cond b x (takeAll overnight x (packetsOf single s)))
 
-        go : (b : Bool) → fits ≡ b → _≡_ {A = TakenAll} (record { session = after; count = told }) (chosen (ltb (length answers) (4 * length (packetsIn s))))
-        go true e =
-            let a : after ≡ rep (takeAll overnight (view session) (packetsIn s)) = sessions ∙ ap (λ (ps : List (List ℕ)). rep (takeAll overnight (view session) ps)) (due-by true e) in
-            let c : told ≡ count.Packets (length (packetsIn s)) = counts ∙ ap (λ (b : Bool). countIf b n) e ∙ ap count.Packets (sym packets-are) in
-            (λ i. record { session = a i; count = c i }) ∙ sym (ap chosen (short ∙ ap not e))
-        go false e =
-            let a : after ≡ rep (view session) = sessions ∙ ap (λ (ps : List (List ℕ)). rep (takeAll overnight (view session) ps)) (due-by false e) in
-            let c : told ≡ count.Refused 11 = counts ∙ ap (λ (b : Bool). countIf b n) e in
-            (λ i. record { session = a i; count = c i }) ∙ sym (ap chosen (short ∙ ap not e))
+        go : (b : Bool) → fits ≡ b → after ≡ chosen (ltb (length answers) (4 * length (packetsOf single s)))
+        go true e = is ∙ ap (λ (ps : List (List ℕ)). rep (takeAll overnight x ps)) (due-by true e) ∙ sym (ap chosen (short ∙ ap not e))
+        go false e = is ∙ ap (λ (ps : List (List ℕ)). rep (takeAll overnight x ps)) (due-by false e) ∙ sym (ap chosen (short ∙ ap not e))
 
-    pub rows-are : {after : List ℕ} → after ≡ splice answers 0 (rowsOf (view session) (take due (packetsIn s))) → after ≡ answersAfter (view session) (packetsIn s) answers
+    pub count-is : {told : Count} → told ≡ countIf fits n → told ≡ countOf (packetsOf single s) (length answers)
+    unfolding countOf
+    count-is {told} counts = go fits refl
+      where
+        chosen : (b : Bool) → Count
+        chosen b = cond b (count.Refused 11) (count.Packets (length (packetsOf single s)))
+
+        go : (b : Bool) → fits ≡ b → told ≡ chosen (ltb (length answers) (4 * length (packetsOf single s)))
+        go true e = counts ∙ ap (λ (b : Bool). countIf b n) e ∙ ap count.Packets (sym packets-are) ∙ sym (ap chosen (short ∙ ap not e))
+        go false e = counts ∙ ap (λ (b : Bool). countIf b n) e ∙ sym (ap chosen (short ∙ ap not e))
+
+    pub rows-are : {after : List ℕ} → after ≡ splice answers 0 (rowsOf (x) (take due (packetsOf single s))) → after ≡ answersAfter (x) (packetsOf single s) answers
     unfolding answersAfter rowsOf
     rows-are {after} is = go fits refl
       where
         chosen : (b : Bool) → List ℕ
-        chosen b = cond b answers (splice answers 0 (rowsOf (view session) (packetsIn s)))
+        chosen b = cond b answers (splice answers 0 (rowsOf (x) (packetsOf single s)))
 
-        go : (b : Bool) → fits ≡ b → after ≡ chosen (ltb (length answers) (4 * length (packetsIn s)))
-        go true e = is ∙ ap (λ (ps : List (List ℕ)). splice answers 0 (rowsOf (view session) ps)) (due-by true e) ∙ sym (ap chosen (short ∙ ap not e))
-        go false e = is ∙ ap (λ (ps : List (List ℕ)). splice answers 0 (rowsOf (view session) ps)) (due-by false e) ∙ splice-none answers 0 ∙ sym (ap chosen (short ∙ ap not e))
+        go : (b : Bool) → fits ≡ b → after ≡ chosen (ltb (length answers) (4 * length (packetsOf single s)))
+        go true e = is ∙ ap (λ (ps : List (List ℕ)). splice answers 0 (rowsOf (x) ps)) (due-by true e) ∙ sym (ap chosen (short ∙ ap not e))
+        go false e = is ∙ ap (λ (ps : List (List ℕ)). splice answers 0 (rowsOf (x) ps)) (due-by false e) ∙ splice-none answers 0 ∙ sym (ap chosen (short ∙ ap not e))
 
 first-bytes : (n : ℕ) (ss : List (List ℕ)) → AllBytes ss → AllBytes (take n ss)
 first-bytes zero ss h = tt
 first-bytes (suc n) [] h = tt
 first-bytes (suc n) (s ∷ ss) h = (h .0, first-bytes n ss (h .1))
 
-pub rule-packets : {session : Session} → Ruled session → (single : Bool) (s : List ℕ) (n : ℕ) → Bytes s → {after : Session} → after ≡ rep (takeAll overnight (view session) (take n (packetsOf single s))) → Ruled after
+pub rule-packets : {session : Held} → Ruled session → (single : Bool) (s : List ℕ) (n : ℕ) → Bytes s → {after : Held} → after ≡ rep (takeAll overnight (view session) (take n (packetsOf single s))) → Ruled after
 rule-packets rule single s n bytes e = rule-of e (ruled-more rule (take n (packetsOf single s)) (first-bytes n (packetsOf single s) (parts-bytes s bytes (framesOf single s))))
 
 -- ---- what is missing
 
-pub book-kept : {s : Session} → Ruled s → Kept (bookIn s)
-book-kept r = subst (λ (z : Session). Kept (bookIn z)) (sym (stands r .same)) (kept (stands r .good))
+-- next and end in the room
+pub record Numbered (room : List ℕ) : Type 0 where
+  pub order : nextIn room ≤ endIn room
+  pub top : endIn room ≤ 4294967296
 
-pub record Numbered (s : Session) : Type 0 where
-  pub order : s .next ≤ s .end
-  pub top : s .end ≤ 4294967296
-
-pub numbered : {s : Session} → Ruled s → Numbered s
+pub numbered : {s : Held} → Ruled s → Numbered (s .room)
+unfolding partsOf
 numbered r =
     let h = stands r in
-    subst Numbered (sym (h .same)) (record { order = next-end (h .good .inv); top = h .good .top })
+    subst (λ (z : Held). Numbered (z .room)) (sym (h .same)) (record { order = next-end (h .good .inv); top = h .good .top })
 
 lacks-by : (b : Bool) (m : List ℕ) → lacks (cond b none (some m)) ≡ b
 lacks-by true m = refl
@@ -274,23 +278,23 @@ run-same f g k n h =
     first-same (λ j. not (f j)) (λ j. not (g j)) start (k + n - start) (λ j lo hi. ap not (h j (omega (arith, between .least)) (omega (arith, between .most)))) in
     (λ i. (start, two i - start)) ∙ ap (λ (m : ℕ). (m, firstFrom (λ j. not (g j)) m (k + n - m) - m)) one
 
-module _ (s : Session) where
-  near : (k n : ℕ) → s .next ≤ k → k + n ≤ s .next + 256 → Alike (missingIn (s .window)) (missing (view s)) k n
+module _ (room window : List ℕ) where
+  near : (k n : ℕ) → nextIn room ≤ k → k + n ≤ nextIn room + 256 → Alike (missingIn window) (missing (lineIn room window)) k n
   unfolding Alike
-  near k n lo hi j l h = missing-same (s .window) (s .next) j (omega arith) (omega arith)
+  near k n lo hi j l h = missing-same window (nextIn room) j (omega arith) (omega arith)
 
-  pub gaps-same : runs.gapsOf (s .window) (s .next) (s .end) ≡ gapsOf (view s)
+  pub gaps-same : runs.gapsOf window (nextIn room) (endIn room) ≡ gapsOf (lineIn room window)
   unfolding gapsOf
   gaps-same =
-      runs-same (missingIn (s .window)) (missing (view s)) (s .next) (limitOf (s .next) (s .end) - s .next) 0
-      (near (s .next) (limitOf (s .next) (s .end) - s .next) (omega arith) (omega arith))
+      runs-same (missingIn window) (missing (lineIn room window)) (nextIn room) (limitOf (nextIn room) (endIn room) - nextIn room) 0
+      (near (nextIn room) (limitOf (nextIn room) (endIn room) - nextIn room) (omega arith) (omega arith))
 
-  pub gap-same : (from : ℕ) {top first : ℕ} {gap : Gap} → s .next ≤ s .end → top ≡ min (s .end) (s .next + 256) → first ≡ min (max from (s .next)) top → IsRun (missingIn (s .window)) first top gap → gap ≡ gapFrom (view s) from
+  pub gap-same : (from : ℕ) {top first : ℕ} {gap : Gap} → nextIn room ≤ endIn room → top ≡ min (endIn room) (nextIn room + 256) → first ≡ min (max from (nextIn room)) top → IsRun (missingIn window) first top gap → gap ≡ gapFrom (lineIn room window) from
   unfolding gapFrom
   gap-same from {top} {first} {gap} ordered ends begins run =
-      let at : first ≡ placed (view s) from = begins ∙ ap (min (max from (s .next))) ends in
-      let same : runFrom (missingIn (s .window)) first (top - first) ≡ runFrom (missing (view s)) first (top - first) =
-      run-same (missingIn (s .window)) (missing (view s)) first (top - first) (near first (top - first) (omega arith) (omega arith)) in
-      let whole : runFrom (missing (view s)) first (top - first) ≡ runFrom (missing (view s)) (placed (view s) from) (limit (view s) - placed (view s) from) =
-      (λ i. runFrom (missing (view s)) (at i) (ends i - at i)) in
+      let at : first ≡ placed (lineIn room window) from = begins ∙ ap (min (max from (nextIn room))) ends in
+      let same : runFrom (missingIn window) first (top - first) ≡ runFrom (missing (lineIn room window)) first (top - first) =
+      run-same (missingIn window) (missing (lineIn room window)) first (top - first) (near first (top - first) (omega arith) (omega arith)) in
+      let whole : runFrom (missing (lineIn room window)) first (top - first) ≡ runFrom (missing (lineIn room window)) (placed (lineIn room window) from) (limit (lineIn room window) - placed (lineIn room window) from) =
+      (λ i. runFrom (missing (lineIn room window)) (at i) (ends i - at i)) in
       λ i. record { start = (run .start ∙ ap (λ (p : ℕ × ℕ). p .0) (same ∙ whole)) i; count = (run .count ∙ ap (λ (p : ℕ × ℕ). p .1) (same ∙ whole)) i }

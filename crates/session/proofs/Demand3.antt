@@ -13,22 +13,18 @@ use Rattle.merge.specs.Promise.{Demand3}
 use Rattle.merge.proofs.Hosts.{host-sent, hosts-agree, hosts-meet}
 use Rattle.window_taking.proofs.Accepted.{overnight-demand3}
 use Rattle.window_taking.specs.Turns.{burstFrom, packetsIn}
-use Rattle.session.specs.Meaning.{AllBytes, Meaning, feed, overnight, rep, view}
+use Rattle.session.specs.Meaning.{AllBytes, Held, Meaning, feed, overnight, rep, view}
 use Rattle.session.specs.Bursts.{burstOf, handedIn}
-use Rattle.session.specs.declared.packets.Count.the-variants as count
-use Rattle.session.specs.declared.packets.Taken.{Taken}
-use Rattle.session.specs.declared.packets.TakenAll.{TakenAll}
-use Rattle.session.specs.declared.state.Session.{Session}
 use Rattle.session.proofs.Calls.{parts-bytes}
 use Rattle.session.proofs.Given.{Given, bursting, opened-is, opening, taking, took-all-is, took-is}
 use Rattle.session.proofs.States.{all-more, ruled-means, take-more}
 
 -- what a call hands in
-burst-session : (x : Meaning) (lent : List ℕ) (room : ℕ) → burstOf x (packetsIn lent) room .session ≡ rep (takeAll overnight x (handedIn lent room))
+burst-session : (x : Meaning) (lent : List ℕ) (room : ℕ) → burstOf x (packetsIn lent) room ≡ takeAll overnight x (handedIn lent room)
 unfolding burstOf takeAll
 burst-session x lent room = go (ltb room (4 * length (packetsIn lent)))
   where
-    go : (b : Bool) → (cond {A = TakenAll} b (record { session = rep x; count = count.Refused 11 }) (record { session = rep (takeAll overnight x (packetsIn lent)); count = count.Packets (length (packetsIn lent)) })) .session ≡ rep (takeAll overnight x (cond b [] (packetsIn lent)))
+    go : (b : Bool) → cond b x (takeAll overnight x (packetsIn lent)) ≡ takeAll overnight x (cond b [] (packetsIn lent))
     go true = refl
     go false = refl
 
@@ -40,51 +36,51 @@ handed-bytes lent room bytes = go (ltb room (4 * length (packetsIn lent)))
     go false = parts-bytes lent bytes (burstFrom (length lent) 0 lent)
 
 -- the meaning of a session that byte strings handed in have given
-means-by : {n : ℕ} → n ≤ 4294967295 → (handed : List (List ℕ)) {s : Session} → AllBytes handed → s ≡ rep (takeAll overnight (opened feed n) handed) → view s ≡ takeAll overnight (opened feed n) handed
+means-by : {n : ℕ} → n ≤ 4294967295 → (handed : List (List ℕ)) {s : Held} → AllBytes handed → s ≡ rep (takeAll overnight (opened feed n) handed) → view s ≡ takeAll overnight (opened feed n) handed
 means-by {n} small handed bytes e = ruled-means (record { number = n; small = small; handed = handed; bytes = bytes; given = e })
 
 -- the byte strings handed in have given the session
-pub given-by : {n : ℕ} → n ≤ 4294967295 → {handed : List (List ℕ)} {s : Session} → Given n handed s → AllBytes handed × (s ≡ rep (takeAll overnight (opened feed n) handed))
+pub given-by : {n : ℕ} → n ≤ 4294967295 → {handed : List (List ℕ)} {s : Held} → Given n handed s → AllBytes handed × (s ≡ rep (takeAll overnight (opened feed n) handed))
 unfolding takeAll
 given-by small (opening o) = (tt, opened-is o)
-given-by {n} small (taking {handed} {s} {packet} g bytes call) =
+given-by {n} small (taking {handed} {s} {t} {packet} g bytes call) =
     let h = given-by small g in (
       all-more handed (packet ∷ []) (h .0) (bytes, tt),
-      ap (λ (t : Taken). t .session) (took-is call) ∙ ap (λ (x : Meaning). rep (takeAll overnight x (packet ∷ []))) (means-by small handed (h .0) (h .1)) ∙ ap rep (sym (take-more handed (packet ∷ []) (opened feed n))),
+      took-is call ∙ ap (λ (x : Meaning). rep (takeAll overnight x (packet ∷ []))) (means-by small handed (h .0) (h .1)) ∙ ap rep (sym (take-more handed (packet ∷ []) (opened feed n))),
     )
-given-by {n} small (bursting {handed} {s} {lent} {room} g bytes call) =
+given-by {n} small (bursting {handed} {s} {t} {lent} {room} g bytes call) =
     let h = given-by small g in (
       all-more handed (handedIn lent room) (h .0) (handed-bytes lent room bytes),
-      ap (λ (t : TakenAll). t .session) (took-all-is call)
-          ∙ burst-session (view s) lent room
+      took-all-is call
+          ∙ ap rep (burst-session (view s) lent room)
           ∙ ap (λ (x : Meaning). rep (takeAll overnight x (handedIn lent room))) (means-by small handed (h .0) (h .1))
           ∙ ap rep (sym (take-more handed (handedIn lent room) (opened feed n))),
     )
 
 -- the meaning of a given session
-pub means : {n : ℕ} → n ≤ 4294967295 → {handed : List (List ℕ)} {s : Session} → Given n handed s → view s ≡ takeAll overnight (opened feed n) handed
+pub means : {n : ℕ} → n ≤ 4294967295 → {handed : List (List ℕ)} {s : Held} → Given n handed s → view s ≡ takeAll overnight (opened feed n) handed
 means small {handed} g = let h = given-by small g in means-by small handed (h .0) (h .1)
 
 -- Demand 3: opened at any 32-bit number, after every call.
-pub session-demand3 : {n : ℕ} → n ≤ 4294967295 → {handed : List (List ℕ)} {s : Session} → Given n handed s → Demand3 feed n (accepted overnight (opened feed n) handed) (view s)
+pub session-demand3 : {n : ℕ} → n ≤ 4294967295 → {handed : List (List ℕ)} {s : Held} → Given n handed s → Demand3 feed n (accepted overnight (opened feed n) handed) (view s)
 session-demand3 {n} small {handed} g = subst (Demand3 feed n (accepted overnight (opened feed n) handed)) (sym (means small g)) (overnight-demand3 feed n handed)
 
 -- Two hosts that have the same next, and accepted the same messages below it, in whatever packets and order, hold equal tables.
-pub two-hosts : {n : ℕ} → n ≤ 4294967295 → {ones others : List (List ℕ)} {s t : Session} → Given n ones s → Given n others t → s .next ≡ t .next
-    → ((k : ℕ) → n ≤ k → k < s .next → firstCopy (accepted overnight (opened feed n) ones) k ≡ firstCopy (accepted overnight (opened feed n) others) k)
+pub two-hosts : {n : ℕ} → n ≤ 4294967295 → {ones others : List (List ℕ)} {s t : Held} → Given n ones s → Given n others t → view s .next ≡ view t .next
+    → ((k : ℕ) → n ≤ k → k < view s .next → firstCopy (accepted overnight (opened feed n) ones) k ≡ firstCopy (accepted overnight (opened feed n) others) k)
     → view s .tables ≡ view t .tables
 two-hosts small one other at same = hosts-agree (session-demand3 small one) (session-demand3 small other) at same
 
 -- Two hosts that accepted the same messages meet: if the first accepted copies agree for every number from the opening on,
 -- both have come equally far, and hold equal tables.
-pub two-hosts-meet : {n : ℕ} → n ≤ 4294967295 → {ones others : List (List ℕ)} {s t : Session} → Given n ones s → Given n others t
+pub two-hosts-meet : {n : ℕ} → n ≤ 4294967295 → {ones others : List (List ℕ)} {s t : Held} → Given n ones s → Given n others t
     → ((k : ℕ) → n ≤ k → firstCopy (accepted overnight (opened feed n) ones) k ≡ firstCopy (accepted overnight (opened feed n) others) k)
-    → (s .next ≡ t .next) × (view s .tables ≡ view t .tables)
+    → (view s .next ≡ view t .next) × (view s .tables ≡ view t .tables)
 two-hosts-meet small one other same =
     let at = hosts-meet (session-demand3 small one) (session-demand3 small other) same in
     (at, two-hosts small one other at (λ k lo hi. same k lo))
 
 -- Once the first copies are what was sent, the tables are those of what was sent: the lines' losses and order leave no trace.
-pub no-trace : {n : ℕ} → n ≤ 4294967295 → (sent : ℕ → List ℕ) {handed : List (List ℕ)} {s : Session} → Given n handed s → Genuine sent (accepted overnight (opened feed n) handed)
-    → view s .tables ≡ sentTables feed sent n (s .next)
+pub no-trace : {n : ℕ} → n ≤ 4294967295 → (sent : ℕ → List ℕ) {handed : List (List ℕ)} {s : Held} → Given n handed s → Genuine sent (accepted overnight (opened feed n) handed)
+    → view s .tables ≡ sentTables feed sent n (view s .next)
 no-trace small sent g genuine = host-sent feed sent genuine (session-demand3 small g)

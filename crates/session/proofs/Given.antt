@@ -1,4 +1,4 @@
--- Sessions that an opening and the calls after it have given. What a call gave is said by its own contract, as the checker
+-- What a host holds after an opening and the calls since. What a call gave is said by its own contract, as the checker
 -- has it: `Post` of its arguments, its answer and the lent memory at its end.
 -- Assumes nothing.
 use mathlib.Core.Path.{_≡_}
@@ -8,49 +8,53 @@ use denote.Ref.{now}
 use lib.ListN.{length}
 use Rattle.wire.specs.Number.{Bytes}
 use Rattle.merge.specs.State as merge
-use Rattle.session.specs.Meaning.{Ruled, feed, rep, view}
+use Rattle.merge.specs.State.{takeOne}
+use Rattle.session.specs.Meaning.{Held, Ruled, feed, held, overnight, rep, view}
 use Rattle.window_taking.specs.Turns.{packetsIn}
-use Rattle.session.specs.Bursts.{burstOf, handedIn, takenOf}
-use Rattle.session.specs.declared.packets.Taken.{Taken}
-use Rattle.session.specs.declared.packets.TakenAll.{TakenAll}
-use Rattle.session.specs.declared.state.Session.{Session}
+use Rattle.session.specs.Bursts.{answerOf, burstOf, handedIn}
+use Rattle.session.specs.declared.packets.Answer.{Answer}
 use Rattle.session.proofs.state.Session.open.Reads as session-open
 use Rattle.session.proofs.packets.take.Reads as session-take
 use Rattle.session.proofs.packets.burst.Reads as session-burst
 
--- an opening at a number gave this session
-pub data Opened : ℕ → Session → Type 0 where
-  opened : (κs : _) (a : _) (r : _) (later : _) → session-open.Post κs a r later → Opened (a .0) r
+-- an opening at a number gave the session, the room and the window
+pub data Opened : ℕ → Held → Type 0 where
+  opened : (κs : _) (a : _) (r : _) (later : _) → session-open.Post κs a r later → Opened (a .0) (held r (now (later .1 .0)) (now (later .1 .1 .0)))
 
--- taking a packet in a session gave this answer, with the session behind it
-pub data Took : Session → List ℕ → Taken → Type 0 where
-  took : (κs : _) (a : _) (r : _) (later : _) → session-take.Post κs a r later → Took (a .0) (now (a .1 .0)) r
+-- taking a packet, with these held before, gave this answer, with those held behind it
+pub data Took : Held → List ℕ → Held → Answer → Type 0 where
+  took : (κs : _) (a : _) (r : _) (later : _) → session-take.Post κs a r later
+      → Took (held (a .0) (now (a .1 .0)) (now (a .1 .1 .0))) (now (a .1 .1 .1 .0)) (held (r .session) (now (later .1 .0)) (now (later .1 .1 .0))) (r .answer)
 
 -- so did taking the packets of lent bytes, with a list of so many numbers for the answers
-pub data TookAll : Session → List ℕ → ℕ → TakenAll → Type 0 where
-  took-all : (κs : _) (a : _) (r : _) (later : _) → session-burst.Post κs a r later → TookAll (a .0) (now (a .1 .0)) (length (now (a .1 .1 .0))) r
+pub data TookAll : Held → List ℕ → ℕ → Held → Type 0 where
+  took-all : (κs : _) (a : _) (r : _) (later : _) → session-burst.Post κs a r later
+      → TookAll (held (a .0) (now (a .1 .0)) (now (a .1 .1 .0))) (now (a .1 .1 .1 .0)) (length (now (a .1 .1 .1 .1 .0))) (held (r .session) (now (later .1 .0)) (now (later .1 .1 .0)))
 
 -- opened at n, with these byte strings handed in since, in this order: a case for each call
-pub data Given (n : ℕ) : List (List ℕ) → Session → Type 0 where
-  opening : {s : Session} → Opened n s → Given n [] s
-  taking : {handed : List (List ℕ)} {s : Session} {packet : List ℕ} {r : Taken} → Given n handed s → Bytes packet → Took s packet r
-      → Given n (handed ++ (packet ∷ [])) (r .session)
-  bursting : {handed : List (List ℕ)} {s : Session} {lent : List ℕ} {room : ℕ} {r : TakenAll} → Given n handed s → Bytes lent → TookAll s lent room r
-      → Given n (handed ++ handedIn lent room) (r .session)
+pub data Given (n : ℕ) : List (List ℕ) → Held → Type 0 where
+  opening : {s : Held} → Opened n s → Given n [] s
+  taking : {handed : List (List ℕ)} {s t : Held} {packet : List ℕ} {answer : Answer} → Given n handed s → Bytes packet → Took s packet t answer
+      → Given n (handed ++ (packet ∷ [])) t
+  bursting : {handed : List (List ℕ)} {s t : Held} {lent : List ℕ} {room : ℕ} → Given n handed s → Bytes lent → TookAll s lent room t
+      → Given n (handed ++ handedIn lent room) t
 
 -- ---- what the contracts say
 
-pub opened-is : {n : ℕ} {s : Session} → Opened n s → s ≡ rep (merge.opened feed n)
+pub opened-is : {n : ℕ} {s : Held} → Opened n s → s ≡ rep (merge.opened feed n)
 opened-is (opened κs a r later post) = post .0
 
-pub took-is : {s : Session} {packet : List ℕ} {r : Taken} → Took s packet r → r ≡ takenOf (view s) packet
+pub took-is : {s t : Held} {packet : List ℕ} {answer : Answer} → Took s packet t answer → t ≡ rep (takeOne overnight (view s) packet)
 took-is (took κs a r later post) = post .0
 
-pub took-all-is : {s : Session} {lent : List ℕ} {room : ℕ} {r : TakenAll} → TookAll s lent room r → r ≡ burstOf (view s) (packetsIn lent) room
+pub took-answer : {s t : Held} {packet : List ℕ} {answer : Answer} → Took s packet t answer → answer ≡ answerOf (view s) packet
+took-answer (took κs a r later post) = post .1 .0
+
+pub took-all-is : {s t : Held} {lent : List ℕ} {room : ℕ} → TookAll s lent room t → t ≡ rep (burstOf (view s) (packetsIn lent) room)
 took-all-is (took-all κs a r later post) = post .0
 
 -- each call keeps the rule: that is a part of its contract
-pub given-ruled : {n : ℕ} {handed : List (List ℕ)} {s : Session} → Given n handed s → Ruled s
+pub given-ruled : {n : ℕ} {handed : List (List ℕ)} {s : Held} → Given n handed s → Ruled s
 given-ruled (opening (opened κs a r later post)) = post .1
-given-ruled (taking g bytes (took κs a r later post)) = post .1
-given-ruled (bursting g bytes (took-all κs a r later post)) = post .1 .1
+given-ruled (taking g bytes (took κs a r later post)) = post .1 .1
+given-ruled (bursting g bytes (took-all κs a r later post)) = post .1 .1 .1

@@ -1,8 +1,12 @@
 -- Laws of `session`'s definitions.
 pub mod States
-pub mod Finds
+pub mod Dispatch
 pub mod Runs
+pub mod Cleared
 pub mod Calls
+pub mod Answers
+pub mod Quotes
+pub mod Passes
 pub mod Given
 pub mod Demand3
 pub mod Promises

@@ -26,13 +26,12 @@ use Rattle.book.specs.Tables.{Tables}
 use Rattle.book.specs.declared.tables.Faults.{Faults}
 use Rattle.book.specs.declared.deciding.Effect.{Effect}
 use Rattle.book.specs.declared.deciding.Effect.the-variants.{Put, Replace, Remove, Renew, Enter, Record, Unchanged, Fault}
-use Rattle.session.specs.Meaning.{Ruled, Meaning, feed, overnight, rep, view}
+use Rattle.session.specs.Meaning.{Held, Ruled, Meaning, feed, overnight, rep, view}
 use Rattle.session.specs.Bursts.{answered, appliedOf, refusalOf}
 use Rattle.session.specs.declared.packets.Answer.the-variants.{Applied, Refused}
-use Rattle.session.specs.declared.packets.Taken.{Taken}
-use Rattle.session.specs.declared.state.Session.{Session}
+use Rattle.session.specs.declared.packets.Answer.{Answer}
 use Rattle.session.proofs.Calls.{both, few, packet-small}
-use Rattle.session.proofs.Given.{Given, Took, took-is}
+use Rattle.session.proofs.Given.{Given, Took, took-answer, took-is}
 use Rattle.session.proofs.Demand3.{means}
 use Rattle.session.proofs.States.{Good, good-one, meaning, ruled-rule, stands, take-more, view-rep}
 
@@ -102,62 +101,62 @@ end-is s e =
     ap (λ (b : Bool). endOf (cond {A = Packet (List ℕ)} b (heartbeat (headerIn s .seq)) (merge.packet (headerIn s .seq) (map (bytesAt s) (framesIn s))))) e
     ∙ ap (λ (n : ℕ). headerIn s .seq + n) (length-map (framesIn s) (bytesAt s) ∙ length-frames (headerIn s .messages) 12 s)
 
-module _ {s : Session} {packet : List ℕ} {r : Taken} (rule : Ruled s) (bytes : Bytes packet) (call : Took s packet r) where
-  session-is : r .session ≡ rep (takeOne overnight (view s) packet)
-  session-is = ap (λ (t : Taken). t .session) (took-is call)
+module _ {s t : Held} {packet : List ℕ} {answer : Answer} (rule : Ruled s) (bytes : Bytes packet) (call : Took s packet t answer) where
+  session-is : t ≡ rep (takeOne overnight (view s) packet)
+  session-is = took-is call
 
-  answer-is : r .answer ≡ answered (appliedOf (view s) packet) (refusalOf (view s) packet)
-  answer-is = ap (λ (t : Taken). t .answer) (took-is call)
+  answer-is : answer ≡ answered (appliedOf (view s) packet) (refusalOf (view s) packet)
+  answer-is = took-answer call
 
   good : Good (view s)
   good = subst Good (sym (meaning (stands rule))) (stands rule .good)
 
-  behind : view (r .session) ≡ takeOne overnight (view s) packet
+  behind : view t ≡ takeOne overnight (view s) packet
   behind = ap view session-is ∙ view-rep (good-one good packet bytes)
 
-  accepted-is : {n : ℕ} → r .answer ≡ Applied n → judge (view s) packet ≡ some (packetIn packet)
+  accepted-is : {n : ℕ} → answer ≡ Applied n → judge (view s) packet ≡ some (packetIn packet)
   unfolding judge
   accepted-is e =
       ap (λ (b : Bool). cond b (some (packetIn packet)) none)
       (eq-eqb (refusalOf (view s) packet) 0 (applied-by (appliedOf (view s) packet) (refusalOf (view s) packet) (sym answer-is ∙ e) .0))
 
-  refused-is : {n : ℕ} → r .answer ≡ Refused n → judge (view s) packet ≡ none
+  refused-is : {n : ℕ} → answer ≡ Refused n → judge (view s) packet ≡ none
   unfolding judge
   refused-is e =
       ap (λ (b : Bool). cond b (some (packetIn packet)) none)
       (ne-eqb (refusalOf (view s) packet) 0 (refused-by (appliedOf (view s) packet) (refusalOf (view s) packet) (sym answer-is ∙ e) .0))
 
   -- A packet that starts at or below next never meets 9.
-  pub low-start-no-nine : headerIn packet .seq ≤ s .next → r .answer ≡ Refused 9 → ⊥
+  pub low-start-no-nine : headerIn packet .seq ≤ view s .next → answer ≡ Refused 9 → ⊥
   low-start-no-nine low e =
       not-nine (view s) packet (never-nine (view s) packet bytes low) (sym (refused-by (appliedOf (view s) packet) (refusalOf (view s) packet) (sym answer-is ∙ e) .1))
 
-  past-end : {n : ℕ} → headerIn packet .seq ≤ s .next → r .answer ≡ Applied n → endOf (packetIn packet) ≤ r .session .next
+  past-end : {n : ℕ} → headerIn packet .seq ≤ view s .next → answer ≡ Applied n → endOf (packetIn packet) ≤ view t .next
   past-end low e =
-      let start : packetIn packet .first ≤ s .next = omega (arith, first-is packet) in
-      subst (λ (t : Session). endOf (packetIn packet) ≤ t .next) (sym session-is) (overnight-past feed (rule .number) packet (ruled-rule rule) (accepted-is e) start)
+      let start : packetIn packet .first ≤ view s .next = omega (arith, first-is packet) in
+      subst (λ (x : Meaning). endOf (packetIn packet) ≤ x .next) (sym behind) (overnight-past feed (rule .number) packet (ruled-rule rule) (accepted-is e) start)
 
   -- Accepted, it leaves next past its last number, SeqNum + Messages - 1: next moves, if that number was not below it.
-  pub low-start-past : {n : ℕ} → header.heartbeat (headerIn packet .flag) ≡ false → headerIn packet .seq ≤ s .next → r .answer ≡ Applied n
-      → headerIn packet .seq + headerIn packet .messages ≤ r .session .next
-  low-start-past some-message low e = subst (λ (k : ℕ). k ≤ r .session .next) (end-is packet some-message) (past-end low e)
+  pub low-start-past : {n : ℕ} → header.heartbeat (headerIn packet .flag) ≡ false → headerIn packet .seq ≤ view s .next → answer ≡ Applied n
+      → headerIn packet .seq + headerIn packet .messages ≤ view t .next
+  low-start-past some-message low e = subst (λ (k : ℕ). k ≤ view t .next) (end-is packet some-message) (past-end low e)
 
   -- How many were applied: new next less old.
-  pub applied-count : {n : ℕ} → r .answer ≡ Applied n → n ≡ r .session .next - s .next
+  pub applied-count : {n : ℕ} → answer ≡ Applied n → n ≡ view t .next - view s .next
   applied-count e =
       applied-by (appliedOf (view s) packet) (refusalOf (view s) packet) (sym answer-is ∙ e) .1
-      ∙ ap (λ (t : Session). t .next - s .next) (sym session-is)
+      ∙ ap (λ (x : Meaning). x .next - view s .next) (sym behind)
 
   -- A refusal changes nothing, end included.
-  pub refusal-changes-nothing : {n : ℕ} → r .answer ≡ Refused n → r .session ≡ s
+  pub refusal-changes-nothing : {n : ℕ} → answer ≡ Refused n → t ≡ s
   refusal-changes-nothing e =
       session-is
       ∙ ap rep (take-refused overnight 0 (view s) packet (refused-is e) ∙ meaning (stands rule))
       ∙ sym (stands rule .same)
 
   -- An accepted heartbeat raises end to its SeqNum if that is larger, and does nothing else.
-  pub heartbeat-raises-end : {n : ℕ} → header.heartbeat (headerIn packet .flag) ≡ true → r .answer ≡ Applied n
-      → view (r .session) ≡ record { next = s .next; end = max (s .end) (headerIn packet .seq); waiting = view s .waiting; tables = view s .tables }
+  pub heartbeat-raises-end : {n : ℕ} → header.heartbeat (headerIn packet .flag) ≡ true → answer ≡ Applied n
+      → view t ≡ record { next = view s .next; end = max (view s .end) (headerIn packet .seq); waiting = view s .waiting; tables = view s .tables }
   unfolding takeOne takeIf packetIn
   heartbeat-raises-end beats e =
       let x = view s in
@@ -231,7 +230,7 @@ all-stood [] x = stood (x .tables .faults)
 all-stood (p ∷ ps) x = stood-more (one-stood x p) (all-stood ps (takeOne overnight x p))
 
 -- The record of faults stands until the next opening, whatever is handed in.
-pub faults-stand : {n : ℕ} → n ≤ 4294967295 → {handed : List (List ℕ)} (more : List (List ℕ)) {s t : Session} → Given n handed s → Given n (handed ++ more) t → Stood (view s .tables .faults) (view t .tables .faults)
+pub faults-stand : {n : ℕ} → n ≤ 4294967295 → {handed : List (List ℕ)} (more : List (List ℕ)) {s t : Held} → Given n handed s → Given n (handed ++ more) t → Stood (view s .tables .faults) (view t .tables .faults)
 faults-stand {n} small {handed} more {s} {t} g h =
     let later : view t ≡ takeAll overnight (view s) more =
     means small h ∙ take-more handed more (opened feed n) ∙ ap (λ (x : Meaning). takeAll overnight x more) (sym (means small g)) in

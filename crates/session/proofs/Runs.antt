@@ -23,20 +23,17 @@ use Rattle.merge.proofs.Lowest.{stuck}
 use Rattle.merge.proofs.Places.{held-place, step-put}
 use Rattle.merge.proofs.Window.{nothing-waits, waits-where}
 use Rattle.packet.specs.Header.{decided}
-use Rattle.book_index.specs.Chains.{Indexed, indexOf}
-use Rattle.book_index.specs.Pairs.{Paired}
-use Rattle.book_index.specs.Changes.{Open as Room, Leaving, without}
-use Rattle.book_index.proofs.Kept.{asks-put, asks-remove, kept-put, kept-remove}
-use Rattle.book_index.proofs.Pairs.{asks-pair, kept-pair}
 use Rattle.window.specs.Window.{sizeAt, startOf, waitsAt, zeros}
 use Rattle.window.proofs.Held.{clear-window, with, with-other, with-same}
 use Rattle.wire.proofs.Parts.{part-front, part-long}
 use Rattle.message.specs.Whole.{Whole}
 use Rattle.book.specs.Applying.{applyOf}
-use Rattle.book.specs.Rule.{Apart, Distinct, Kept}
+use Rattle.book.specs.Rule.{Ready}
 use Rattle.book.specs.Tables as book
-use Rattle.book.specs.Tables.{Tables, frontsOf}
-use Rattle.book.specs.declared.tables.Book.{Book}
+use Rattle.book.specs.Tables.{Book, Tables}
+use Rattle.book.specs.declared.tables.Order.{Order}
+use Rattle.book_room.specs.Arms.{after}
+use Rattle.book_room.specs.Room.{Houses, partsOf, roomOf}
 use Rattle.book.proofs.Keeping as keeping
 use Rattle.session_message.specs.Source.{Begins, Goes, Lies as InBytes, messageAt, onwardOf, sizeIn, textAfter, windowAfter}
 use Rattle.session_message.specs.declared.Source.{Source}
@@ -47,10 +44,9 @@ use Rattle.window_taking.specs.Turns.{Closes, Follows, Lies, answerIf, atStart,
 use Rattle.window_taking.specs.declared.burst.Turn.{Turn}
 use Rattle.window_taking.proofs.Ahead.{Ahead, ahead-of, freed, level-of}
 use Rattle.window_taking.proofs.Windows.{fine, in-places, place-free, place-used, placed, same-window, waiting-for, waits-place, window-size}
-use Rattle.session.specs.Meaning.{Meaning, bookIn, feed, overnight, rep, sessionOf, view, Ruled}
+use Rattle.session.specs.Meaning.{Held, Meaning, endIn, feed, held, nextIn, overnight, rep, view, Ruled}
 use Rattle.session.specs.Bursts.{Runs, refusalOf, rowWith, rowsOf}
-use Rattle.session.specs.declared.state.Session.{Session}
-use Rattle.session.proofs.States.{Good, Stands, good-kept, good-step, backs-of, fronts-of, ids-of, index-of, indexed-rep, held-at-rep, symbols-of, kept, meaning, neat, stands, waits-below, within}
+use Rattle.session.proofs.States.{Good, Stands, good-kept, good-step, kept, meaning, neat, ready, stands, waits-below, within}
 
 -- ---- the packets that are left lie one behind the other
 
@@ -104,7 +100,7 @@ unfolding keptIf keep keptAt
 bare-if x none = (refl, refl)
 bare-if x (some p) = (refl, refl)
 
-kept-next : (x : Meaning) (o : Option (Packet (List ℕ))) → (keptIf x o .next ≡ x .next) × (keptIf x o .tables ≡ x .tables)
+pub kept-next : (x : Meaning) (o : Option (Packet (List ℕ))) → (keptIf x o .next ≡ x .next) × (keptIf x o .tables ≡ x .tables)
 unfolding keptIf keep
 kept-next x none = (refl, refl)
 kept-next x (some p) = (refl, refl)
@@ -124,12 +120,12 @@ bare-held x p = ap (λ (b : Bool). cond b (bare x) (keptBy (bare x) p) .waiting)
     go true = refl
     go false = bare-kept x p
 
-held-by : (x : Meaning) (p : List ℕ) (b : Bool) → straightIn x p ≡ b → heldBy x p ≡ cond b x (keptBy x p)
+pub held-by : (x : Meaning) (p : List ℕ) (b : Bool) → straightIn x p ≡ b → heldBy x p ≡ cond b x (keptBy x p)
 unfolding heldBy
 held-by x p b e = ap (λ (c : Bool). cond c x (keptBy x p)) e
 
 -- with nothing left to apply before it, a packet is kept and then all is applied that can be
-take-kept : (x : Meaning) (p : List ℕ) → x .waiting (x .next) ≡ none → takeOne overnight x p ≡ applyUpTo feed 256 (keptBy x p)
+pub take-kept : (x : Meaning) (p : List ℕ) → x .waiting (x .next) ≡ none → takeOne overnight x p ≡ applyUpTo feed 256 (keptBy x p)
 unfolding takeOne takeIf keptIf
 take-kept x p front = go (judge x p)
   where
@@ -143,11 +139,11 @@ module _ (x : Meaning) {w : List ℕ} {next end : ℕ} (g : Good x) (window : w 
       let waits : waitingOf w next ≡ x .waiting = ap₂ waitingOf window at ∙ waiting-for (within g) in
       λ i. record { next = at i; end = ends i; waiting = waits i; tables = tt }
 
-  state-refusal : admittedOf (stateOf w next end) p .refusal ≡ refusalOf x p
+  pub state-refusal : admittedOf (stateOf w next end) p .refusal ≡ refusalOf x p
   unfolding admittedOf
   state-refusal = ap (λ (z : merge.State (List ℕ) (Unit {0})). decided (takeTests z p) .0) as-state ∙ bare-refusal x p
 
-  state-end : admittedOf (stateOf w next end) p .end ≡ keptBy x p .end
+  pub state-end : admittedOf (stateOf w next end) p .end ≡ keptBy x p .end
   unfolding admittedOf
   state-end = ap (λ (z : merge.State (List ℕ) (Unit {0})). keptBy z p .end) as-state ∙ ap (λ (o : Option (Packet (List ℕ))). keptIf (bare x) o .end) (bare-judge x p) ∙ bare-if x (judge x p) .1
 
@@ -155,7 +151,7 @@ module _ (x : Meaning) {w : List ℕ} {next end : ℕ} (g : Good x) (window : w 
   unfolding admittedOf
   state-direct = ap (λ (z : merge.State (List ℕ) (Unit {0})). cond (straightIn z p) (countOf (judge z p)) 0) as-state ∙ (λ i. cond (bare-straight x p i) (countOf (bare-judge x p i)) 0)
 
-  state-held : heldBy (stateOf w next end) p .waiting ≡ heldBy x p .waiting
+  pub state-held : heldBy (stateOf w next end) p .waiting ≡ heldBy x p .waiting
   state-held = ap (λ (z : merge.State (List ℕ) (Unit {0})). heldBy z p .waiting) as-state ∙ bare-held x p
 
   pub state-known : Known w next end
@@ -175,12 +171,11 @@ finish x before next = applyUpTo feed (before + 256 - next) x
 abbrev rowsFrom : Turn → List ℕ → Meaning → List (ℕ × ℕ) → List ℕ
 rowsFrom turn s z rest = answerIf (turn .begun) (rowWith (turn .before) (turn .refusal) z) ++ rowsOf z (map (bytesAt s) rest)
 
-pub record Open (all : Meaning) (written : List ℕ) (s : List ℕ) (single : Bool) (answers : List ℕ) (b : Book) (index symbols w : List ℕ) (next : ℕ) (turn : Turn) (source : Source) : Type 0 where
+pub record Open (all : Meaning) (written : List ℕ) (s : List ℕ) (single : Bool) (answers : List ℕ) (n₀ e₀ : ℕ) (os : List Order) (numbers w : List ℕ) (next : ℕ) (turn : Turn) (source : Source) : Type 0 where
   pub state : Meaning
   pub good : Good state
-  pub book : b ≡ book.rep (state .tables)
-  pub indexed : Indexed index (b .keys) (b .live)
-  pub held-at : Paired symbols (b .fronts) (b .backs) (b .held)
+  pub orders : os ≡ book.rep (state .tables) .orders
+  pub housed : numbers ≡ roomOf n₀ e₀ (book.rep (state .tables))
   pub ahead : Ahead s (source .left) (source .from) (state .next) w (state .waiting)
   pub long : length w ≡ 32768
   pub at : next ≡ state .next
@@ -196,9 +191,9 @@ pub record Open (all : Meaning) (written : List ℕ) (s : List ℕ) (single : Bo
   pub big : length answers ≤ 18446744073709551615
 
 -- a packet is admitted
-module _ (all : Meaning) (written : List ℕ) (x : Meaning) (s : List ℕ) (single : Bool) (answers : List ℕ) {b : Book} {index symbols w w′ : List ℕ} {next end at left place : ℕ} {turn : Turn}
+module _ (all : Meaning) (written : List ℕ) (x : Meaning) (s : List ℕ) (single : Bool) (answers : List ℕ) (n₀ e₀ : ℕ) {os : List Order} {numbers w w′ : List ℕ} {next end at left place : ℕ} {turn : Turn}
     (bytes : Bytes s) (g : Good x) (front : x .waiting (x .next) ≡ none)
-    (books : b ≡ book.rep (x .tables)) (indexed : Indexed index (b .keys) (b .live)) (held-at : Paired symbols (b .fronts) (b .backs) (b .held)) (window : w ≡ windowFor (x .waiting) (x .next)) (nexts : next ≡ x .next) (ends : end ≡ x .end)
+    (orders : os ≡ book.rep (x .tables) .orders) (housed : numbers ≡ roomOf n₀ e₀ (book.rep (x .tables))) (window : w ≡ windowFor (x .waiting) (x .next)) (nexts : next ≡ x .next) (ends : end ≡ x .end)
     (f : ℕ × ℕ) (fs : List (ℕ × ℕ)) (lie : Rest single s at (f ∷ fs)) (many : left ≡ length fs)
     (session : all ≡ takeAll overnight x (map (bytesAt s) (f ∷ fs)))
     (rows : written ≡ splice answers place (rowsOf x (map (bytesAt s) (f ∷ fs))))
@@ -260,7 +255,7 @@ module _ (all : Meaning) (written : List ℕ) (x : Meaning) (s : List ℕ) (sing
         ap length is ∙ window-size (within good),
       )
 
-  pub opens : Open all written s single answers b index symbols w′ next turn (record { left = turn .direct; from = turn .from })
+  pub opens : Open all written s single answers n₀ e₀ os numbers w′ next turn (record { left = turn .direct; from = turn .from })
   unfolding takeAll rowsOf p y Led
   opens =
       let before : turn .before ≡ next = ap (λ (t : Turn). t .before) turned in
@@ -272,9 +267,8 @@ module _ (all : Meaning) (written : List ℕ) (x : Meaning) (s : List ℕ) (sing
       record {
         state = keptBy x (packetAt single s at);
         good = good;
-        book = books ∙ ap book.rep (sym (kn .1));
-        indexed = indexed;
-        held-at = held-at;
+        orders = orders ∙ ap (λ (t : Tables). book.rep t .orders) (sym (kn .1));
+        housed = housed ∙ ap (λ (t : Tables). roomOf n₀ e₀ (book.rep t)) (sym (kn .1));
         ahead = on .0;
         long = on .1;
         at = nexts ∙ sym (kn .0);
@@ -309,27 +303,23 @@ none-ahead : (s : List ℕ) (left from next : ℕ) (w : List ℕ) (waiting : ℕ
 none-ahead s left from next w waiting e a = subst (λ (n : ℕ). Ahead s n from next w waiting) e a
 
 -- what the code knows of a message at next, once it is copied out
-pub record Here (s : List ℕ) (source : Source) (size : ℕ) (text : List ℕ) (next before faults : ℕ) : Type 0 where
+pub record Here (s : List ℕ) (source : Source) (size : ℕ) (text : List ℕ) (next before : ℕ) : Type 0 where
   pub whole : Whole (messageAt text s source size)
   pub lies : InBytes s source size
   pub cut : size ≤ length text
   pub long : size ≡ length (take size text)
   pub wide : length text ≡ 128
   pub below : next < 4294967296
-  pub counted : faults ≤ next
   pub fewer : before + 256 - (next + 1) < before + 256 - next
 
 -- what waits at next, by the size where it lies
-module _ {all : Meaning} {written : List ℕ} {s : List ℕ} {single : Bool} {answers : List ℕ} {b : Book} {index symbols w : List ℕ} {next : ℕ} {turn : Turn} {source : Source}
-    (o : Open all written s single answers b index symbols w next turn source) where
-  pub keeps : Kept b
-  keeps = subst Kept (sym (o .book)) (kept (o .good))
+module _ {all : Meaning} {written : List ℕ} {s : List ℕ} {single : Bool} {answers : List ℕ} {n₀ e₀ : ℕ} {os : List Order} {numbers w : List ℕ} {next : ℕ} {turn : Turn} {source : Source}
+    (o : Open all written s single answers n₀ e₀ os numbers w next turn source) where
+  abbrev pub tabled : Book
+  tabled = book.rep (o .state .tables)
 
-  pub distinct : Distinct (take (b .live) (b .keys))
-  distinct = subst Distinct (sym (ids-of (o .state .tables) (o .book))) (o .good .sound .distinct)
-
-  pub apart : Apart (take (b .held) (b .fronts)) (take (b .held) (b .backs))
-  apart = subst (λ (l : List ℕ). Apart l (take (b .held) (b .backs))) (sym (fronts-of (o .state .tables) (o .book))) (subst (Apart (frontsOf (o .state .tables .insides))) (sym (backs-of (o .state .tables) (o .book))) (o .good .sound .apart))
+  pub orders-long : length os ≡ 256
+  orders-long = ap length (o .orders) ∙ kept (o .good) .orders
 
   pub closes : Closes turn next (length answers)
   closes = record { low = o .low; room = omega (arith, o .room) }
@@ -397,14 +387,14 @@ module _ {all : Meaning} {written : List ℕ} {s : List ℕ} {single : Bool} {an
         same-length = ap length put ∙ length-splice answers (turn .place) (closing turn next) (omega (arith, closes .room, row-long))
 
         -- the last one
-        pub ends : turn .left ≡ 0 → (sessionOf b index symbols w next (turn .end) ≡ rep all) × (answers′ ≡ written)
-        unfolding takeAll rowsOf
+        pub ends : turn .left ≡ 0 → (held (record { orders = os }) (set (set numbers 0 next) 1 (turn .end)) w ≡ rep all) × (answers′ ≡ written)
+        unfolding takeAll rowsOf partsOf
         ends last = go (o .rest) refl
           where
-            go : (l : List (ℕ × ℕ)) → o .rest ≡ l → (sessionOf b index symbols w next (turn .end) ≡ rep all) × (answers′ ≡ written)
+            go : (l : List (ℕ × ℕ)) → o .rest ≡ l → (held (record { orders = os }) (set (set numbers 0 next) 1 (turn .end)) w ≡ rep all) × (answers′ ≡ written)
             go [] e =
                 let whole-run : all ≡ o .state = o .session ∙ ap₂ (λ (z : Meaning) (l : List (ℕ × ℕ)). takeAll overnight z (map (bytesAt s) l)) settled e in (
-                  (λ i. sessionOf (o .book i) (index-of (o .state .tables) (o .book) (o .indexed) i) (symbols-of (o .state .tables) (o .book) (o .held-at) i) (window i) (o .at i) (o .end i)) ∙ ap rep (sym whole-run),
+                  (λ i. held (record { orders = o .orders i }) (set (set (o .housed i) 0 (o .at i)) 1 (o .end i)) (window i)) ∙ ap rep (sym whole-run),
                   sym (put-row ∙ ap (λ (l : List (ℕ × ℕ)). splice answers′ (placeAfter turn) (rowsOf (o .state) (map (bytesAt s) l))) e ∙ splice-none answers′ (placeAfter turn)),
                 )
             go (f ∷ fs) e = absurd (omega (arith, o .left, last, ap length e))
@@ -423,13 +413,13 @@ module _ {all : Meaning} {written : List ℕ} {s : List ℕ} {single : Bool} {an
 
           pub follows : {w′ : List ℕ} {turn′ : Turn} → Bytes s → turn′ ≡ turnOf (stateOf w next (turn .end)) single s (turn .at) (turn .left - 1) (placeAfter turn)
               → w′ ≡ windowFor (heldBy (stateOf w next (turn .end)) (packetAt single s (turn .at)) .waiting) next
-              → Open all written s single answers′ b index symbols w′ next turn′ (record { left = turn′ .direct; from = turn′ .from })
+              → Open all written s single answers′ n₀ e₀ os numbers w′ next turn′ (record { left = turn′ .direct; from = turn′ .from })
           follows {w′} {turn′} bytes turned after = go (o .rest) refl
             where
-              go : (l : List (ℕ × ℕ)) → o .rest ≡ l → Open all written s single answers′ b index symbols w′ next turn′ (record { left = turn′ .direct; from = turn′ .from })
+              go : (l : List (ℕ × ℕ)) → o .rest ≡ l → Open all written s single answers′ n₀ e₀ os numbers w′ next turn′ (record { left = turn′ .direct; from = turn′ .from })
               go [] e = absurd (another [] e refl)
               go (f ∷ fs) e =
-                  opens all written (o .state) s single answers′ bytes (o .good) front (o .book) (o .indexed) (o .held-at) window (o .at) (o .end) f fs
+                  opens all written (o .state) s single answers′ n₀ e₀ bytes (o .good) front (o .orders) (o .housed) window (o .at) (o .end) f fs
                   (subst (Rest single s (turn .at)) e (o .frames))
                   (omega (arith, o .left, ap length e))
                   (o .session ∙ ap₂ (λ (z : Meaning) (l : List (ℕ × ℕ)). takeAll overnight z (map (bytesAt s) l)) settled e)
@@ -506,8 +496,12 @@ module _ {all : Meaning} {written : List ℕ} {s : List ℕ} {single : Bool} {an
       number-below : next < 4294967296
       number-below = omega (arith, o .at, waits-below (o .good) (o .state .next) waits)
 
-      counted : b .faults .count ≤ next
-      counted = subst (λ (c : Book). c .faults .count ≤ next) (sym (o .book)) (subst (λ (n : ℕ). o .state .tables .faults .count ≤ n) (sym (o .at)) (o .good .counted))
+      pub houses : Houses numbers n₀ e₀ tabled next m
+      houses =
+          record {
+            ready = subst (λ (n : ℕ). Ready tabled n m) (sym (o .at)) (ready (o .good) waits);
+            is = o .housed;
+          }
 
       early : next < turn .before + 256
       early =
@@ -559,18 +553,16 @@ module _ {all : Meaning} {written : List ℕ} {s : List ℕ} {single : Bool} {an
             ap length (freed-packet source n w (next % 256)) ∙ o .long,
           ))
 
-      pub applied : {b′ : Book} {index′ symbols′ w′ : List ℕ} {source′ : Source} → b′ ≡ book.rep (applyOf (book.view b) next m) → Indexed index′ (b′ .keys) (b′ .live)
-          → Paired symbols′ (b′ .fronts) (b′ .backs) (b′ .held)
-          → w′ ≡ windowAfter w source (next % 256) → source′ ≡ onwardOf source size → Open all written s single answers b′ index′ symbols′ w′ (next + 1) turn source′
+      pub applied : {os′ : List Order} {numbers′ w′ : List ℕ} {source′ : Source} → os′ ≡ after tabled next m .orders → numbers′ ≡ roomOf n₀ e₀ (after tabled next m)
+          → w′ ≡ windowAfter w source (next % 256) → source′ ≡ onwardOf source size → Open all written s single answers n₀ e₀ os′ numbers′ w′ (next + 1) turn source′
       unfolding step moved Led′
-      applied {b′} {index′} {symbols′} {w′} {source′} books indexed held-at is on =
-          let tables : book.view b ≡ o .state .tables = ap book.view (o .book) ∙ keeping.view-rep (o .state .tables) in
+      applied {os′} {numbers′} {w′} {source′} orders housed is on =
+          let behind : after tabled next m ≡ book.rep (applyOf (o .state .tables) (o .state .next) m) = ap₂ (λ (t : Tables) (n : ℕ). book.rep (applyOf t n m)) (keeping.view-rep (o .state .tables)) (o .at) in
           record {
             state = step feed (o .state) (some m);
             good = good-step (o .good) waits;
-            book = books ∙ ap₂ (λ (t : Tables) (n : ℕ). book.rep (applyOf t n m)) tables (o .at);
-            indexed = indexed;
-            held-at = held-at;
+            orders = orders ∙ ap (λ (b : Book). b .orders) behind;
+            housed = housed ∙ ap (roomOf n₀ e₀) behind;
             ahead =
                 subst (λ (z : Source). Ahead s (z .left) (z .from) (o .state .next + 1) w′ (freedAt (o .state))) (sym on)
                 (subst (λ (l : List ℕ). Ahead s (onwardOf source size .left) (onwardOf source size .from) (o .state .next + 1) l (freedAt (o .state))) (sym is) (led-on .0));
@@ -588,7 +580,7 @@ module _ {all : Meaning} {written : List ℕ} {s : List ℕ} {single : Bool} {an
             big = o .big;
           }
 
-      pub here : Here s source size text′ next (turn .before) (b .faults .count)
+      pub here : Here s source size text′ next (turn .before)
       here =
           record {
             whole = whole;
@@ -597,7 +589,6 @@ module _ {all : Meaning} {written : List ℕ} {s : List ℕ} {single : Bool} {an
             long = sym (length-take-le size text′ cut);
             wide = wider;
             below = number-below;
-            counted = counted;
             fewer = omega (arith, early);
           }
 
@@ -613,30 +604,30 @@ bytes-of [] h = tt
 bytes-of (b ∷ s) h = (h 0, bytes-of s (λ i. h (suc i)))
 
 -- where the burst begins: no packet is at hand
-module _ {session : Session} (rule : Ruled session) (s : List ℕ) (single : Bool) {count : ℕ} (answers : List ℕ) (runs : Runs single s count (length answers)) where
-  pub starts : {turn : Turn} → turn ≡ atStart (session .next) (session .end) count
-      → Open (takeAll overnight (view session) (take count (packetsOf single s))) (splice answers 0 (rowsOf (view session) (take count (packetsOf single s)))) s single answers (bookIn session) (session .index) (session .symbols) (session .window) (session .next) turn (record { left = 0; from = 0 })
+module _ {session : Held} (rule : Ruled session) (s : List ℕ) (single : Bool) {count : ℕ} (answers : List ℕ) (runs : Runs single s count (length answers)) where
+  pub starts : {turn : Turn} → turn ≡ atStart (nextIn (session .room)) (endIn (session .room)) count
+      → Open (takeAll overnight (view session) (take count (packetsOf single s))) (splice answers 0 (rowsOf (view session) (take count (packetsOf single s)))) s single answers (nextIn (session .room)) (endIn (session .room)) (session .session .orders) (session .room) (session .window) (nextIn (session .room)) turn (record { left = 0; from = 0 })
+  unfolding partsOf
   starts {turn} turned =
       let h : Stands session = stands rule in
       let x : Meaning = h .state in
-      let nexts : session .next ≡ x .next = ap (λ (z : Session). z .next) (h .same) in
-      let books : bookIn session ≡ book.rep (x .tables) = ap bookIn (h .same) in
-      let is : session .window ≡ windowFor (x .waiting) (x .next) = ap (λ (z : Session). z .window) (h .same) in
+      let nexts : nextIn (session .room) ≡ x .next = ap (λ (z : Held). nextIn (z .room)) (h .same) in
+      let ends : endIn (session .room) ≡ x .end = ap (λ (z : Held). endIn (z .room)) (h .same) in
+      let is : session .window ≡ windowFor (x .waiting) (x .next) = ap (λ (z : Held). z .window) (h .same) in
       let first : List (ℕ × ℕ) = take count (framesOf single s) in
       let packets : take count (packetsOf single s) ≡ map (bytesAt s) first = take-map count (bytesAt s) (framesOf single s) in
       let many : length first ≡ count = length-take-le count (framesOf single s) (runs .all) in
-      let before : turn .before ≡ session .next = ap (λ (t : Turn). t .before) turned in
-      let done : x ≡ finish x (turn .before) (session .next) = sym (stuck feed (turn .before + 256 - session .next) (h .front)) in
+      let before : turn .before ≡ nextIn (session .room) = ap (λ (t : Turn). t .before) turned in
+      let done : x ≡ finish x (turn .before) (nextIn (session .room)) = sym (stuck feed (turn .before + 256 - nextIn (session .room)) (h .front)) in
       record {
         state = x;
         good = h .good;
-        book = books;
-        indexed = subst (λ (z : Session). Indexed (z .index) (z .keys) (z .live)) (sym (h .same)) (indexed-rep (h .good));
-        held-at = subst (λ (z : Session). Paired (z .symbols) (z .fronts) (z .backs) (z .held)) (sym (h .same)) (held-at-rep (h .good));
+        orders = ap (λ (z : Held). z .session .orders) (h .same);
+        housed = ap (λ (z : Held). z .room) (h .same) ∙ (λ i. roomOf (sym nexts i) (sym ends i) (book.rep (x .tables)));
         ahead = is;
         long = ap length is ∙ window-size (within (h .good));
         at = nexts;
-        end = ap (λ (t : Turn). t .end) turned ∙ ap (λ (z : Session). z .end) (h .same);
+        end = ap (λ (t : Turn). t .end) turned ∙ ends;
         low = omega arith;
         near = λ k l. h .good .inv .near k (omega (arith, before, nexts));
         rest = first;
@@ -646,48 +637,13 @@ module _ {session : Session} (rule : Ruled session) (s : List ℕ) (single : Boo
         rows =
             (λ i. splice answers 0 (rowsOf (meaning h i) (packets i)))
             ∙ ap (λ (z : Meaning). splice answers 0 (rowsOf z (map (bytesAt s) first))) done
-            ∙ (λ i. splice answers (sym (ap (λ (t : Turn). t .place) turned) i) (answerIf (sym (ap (λ (t : Turn). t .begun) turned) i) (rowWith (turn .before) (turn .refusal) (finish x (turn .before) (session .next))) ++ rowsOf (finish x (turn .before) (session .next)) (map (bytesAt s) first)));
+            ∙ (λ i. splice answers (sym (ap (λ (t : Turn). t .place) turned) i) (answerIf (sym (ap (λ (t : Turn). t .begun) turned) i) (rowWith (turn .before) (turn .refusal) (finish x (turn .before) (nextIn (session .room)))) ++ rowsOf (finish x (turn .before) (nextIn (session .room))) (map (bytesAt s) first)));
         room = subst (λ (t : Turn). placeAfter t + 4 * t .left ≤ length answers) (sym turned) (omega (arith, runs .room));
         big = runs .big;
       }
 
 -- what the loop keeps
-pub record Going (all : Meaning) (written : List ℕ) (s : List ℕ) (single : Bool) (answers₀ answers : List ℕ) (b : Book) (index symbols w : List ℕ) (next : ℕ) (turn : Turn) (source : Source) (text : List ℕ) : Type 0 where
-  pub now : Open all written s single answers b index symbols w next turn source
+pub record Going (all : Meaning) (written : List ℕ) (s : List ℕ) (single : Bool) (answers₀ answers : List ℕ) (n₀ e₀ : ℕ) (os : List Order) (numbers w : List ℕ) (next : ℕ) (turn : Turn) (source : Source) (text : List ℕ) : Type 0 where
+  pub now : Open all written s single answers n₀ e₀ os numbers w next turn source
   pub wide : length text ≡ 128
   pub same : length answers ≡ length answers₀
-
--- ---- the index, behind an order that came or went
-
-past-last : (n : ℕ) (l : List ℕ) (x : ℕ) → take n (set l n x) ≡ take n l
-past-last zero l x = refl
-past-last (suc n) [] x = refl
-past-last (suc n) (a ∷ l) x = ap (λ (k : List ℕ). a ∷ k) (past-last n l x)
-
-module _ {symbols fronts backs : List ℕ} {held : ℕ} (x : Paired symbols fronts backs held) where
-  pub symbol-asks : held < 64 → (ids : List ℕ) × Room symbols ids held
-  symbol-asks few = (take held fronts, asks-pair symbols fronts backs held x few)
-
-  pub symbol-keeps : {after : List ℕ} (first last : ℕ) → held < 64 → ((ids : List ℕ) → Room symbols ids held → after ≡ indexOf (ids ++ (first ∷ []))) → Paired after (set fronts held first) (set backs held last) (held + 1)
-  symbol-keeps {after} first last few is = kept-pair symbols fronts backs held x first last few (is (take held fronts) (asks-pair symbols fronts backs held x few))
-
-module _ {index keys : List ℕ} {live : ℕ} (x : Indexed index keys live) where
-  pub put-asks : live < 256 → (ids : List ℕ) × Room index ids live
-  put-asks few = (take live keys, asks-put index keys live x few)
-
-  pub put-keeps : {after : List ℕ} (key : ℕ) → live < 256 → ((ids : List ℕ) → Room index ids live → after ≡ indexOf (ids ++ (key ∷ []))) → Indexed after (set keys live key) (live + 1)
-  put-keeps {after} key few is = kept-put index keys live x key few (is (take live keys) (asks-put index keys live x few))
-
-  module _ {place : ℕ} (within : place < live) where
-    last-one : live ≡ live - 1 + 1
-    last-one = omega arith
-
-    pub remove-asks : (ids : List ℕ) × Leaving index ids (live - 1) place (getD keys place 0) (getD keys (live - 1) 0)
-    remove-asks = (take live keys, asks-remove index keys live x (live - 1) place last-one (omega arith))
-
-    pub remove-keeps : {after : List ℕ} → ((ids : List ℕ) → Leaving index ids (live - 1) place (getD keys place 0) (getD keys (live - 1) 0) → after ≡ indexOf (without 0 place ids))
-        → Indexed after (set (set keys place (getD keys (live - 1) 0)) (live - 1) 0) (live - 1)
-    remove-keeps is =
-        kept-remove index keys live x (live - 1) place last-one (omega arith) (is (take live keys) (asks-remove index keys live x (live - 1) place last-one (omega arith)))
-        (length-set (set keys place (getD keys (live - 1) 0)) (live - 1) 0 ∙ length-set keys place (getD keys (live - 1) 0) ∙ x .size)
-        (past-last (live - 1) (set keys place (getD keys (live - 1) 0)) 0)

@@ -7,7 +7,6 @@ use mathlib.Core.Option.{Option, none, some, Option·none-ne-some}
 use Prim.Native.Nat.{ℕ, zero, suc, _+_, _≤_, _<_}
 use native.Mathlib.Decide.{decLt, ℕ-discrete}
 use native.Mathlib.Omega.{arith}
-use lib.ListN.{length-map, take}
 use Rattle.wire.specs.Number.{Bytes}
 use Rattle.merge.specs.State.{Packet, applyUpTo, copyOf, firstThere, freedAt, keep, opened, step, takeAll, takeIf, takeOne}
 use Rattle.merge.specs.History.{accepted}
@@ -21,12 +20,9 @@ use Rattle.message.specs.Whole.{Whole}
 use Rattle.book.specs.Applying.{applyOf}
 use Rattle.book.specs.Rule.{Kept, Ready, Sound}
 use Rattle.book.specs.Tables as book
-use Rattle.book.specs.Lookup.{backOf, frontOf}
-use Rattle.book.specs.Tables.{Tables, backsOf, frontsOf, idsOf}
-use Rattle.book.specs.declared.tables.Book.{Book}
-use Rattle.book.proofs.Steps.{front-keys}
-use Rattle.book_index.specs.Chains.{Indexed, indexOf}
-use Rattle.book_index.specs.Pairs.{Paired}
+use Rattle.book.specs.Tables.{Tables}
+use Rattle.book_room.specs.Room.{partsOf}
+use Rattle.book_room.proofs.Insides.{insides-in}
 use Rattle.book.proofs.Keeping as keeping
 use Rattle.book.proofs.Laws.{counted-next}
 use Rattle.window_taking.specs.Keeping.{Neat, keptBy, keptIf, windowFor}
@@ -34,8 +30,7 @@ use Rattle.window_taking.specs.Taking.{judge}
 use Rattle.window_taking.proofs.Accepted.{overnight-judged}
 use Rattle.window_taking.proofs.Passing.{Passes, passes}
 use Rattle.window_taking.proofs.Windows.{Within, neat-for, waiting-for}
-use Rattle.session.specs.Meaning.{AllBytes, Ruled, Meaning, feed, overnight, rep, view}
-use Rattle.session.specs.declared.state.Session.{Session}
+use Rattle.session.specs.Meaning.{AllBytes, Held, Ruled, Meaning, feed, overnight, rep, tablesIn, view}
 
 -- what all of them have, also between two messages
 pub record Good (x : Meaning) : Type 0 where
@@ -60,8 +55,13 @@ module _ {x : Meaning} (g : Good x) where
   pub kept : Kept (book.rep (x .tables))
   kept = keeping.kept-rep (x .tables) (g .sound)
 
+  pub tables-rep : tablesIn (rep x .session) (rep x .room) ≡ x .tables
+  unfolding partsOf
+  tables-rep = λ i. record { orders = keeping.view-rep (x .tables) i .orders; insides = insides-in (x .next) (x .end) (x .tables) (g .sound) i; code = x .tables .code; faults = x .tables .faults }
+
   pub view-rep : view (rep x) ≡ x
-  view-rep = λ i. record { next = x .next; end = x .end; waiting = waiting-for within i; tables = keeping.view-rep (x .tables) i }
+  unfolding partsOf
+  view-rep = λ i. record { next = x .next; end = x .end; waiting = waiting-for within i; tables = tables-rep i }
 
   -- a number that waits is below 4,294,967,296
   pub waits-below : (k : ℕ) {m : List ℕ} → x .waiting k ≡ some m → k < 4294967296
@@ -121,33 +121,6 @@ good-open n small =
       top = omega arith;
     }
 
--- the live keys of a book are its orders' ids, and the index is over them
-pub ids-of : {b : Book} (t : Tables) → b ≡ book.rep t → take (b .live) (b .keys) ≡ idsOf (t .orders)
-ids-of {b} t is =
-    front-keys 256 (idsOf (t .orders)) (ap (λ (c : Book). c .keys) is) (ap (λ (c : Book). c .live) is ∙ sym (length-map (t .orders) (λ o. o .id)))
-
-pub index-of : {b : Book} (t : Tables) {index : List ℕ} → b ≡ book.rep t → Indexed index (b .keys) (b .live) → index ≡ indexOf (idsOf (t .orders))
-index-of t is indexed = indexed .is ∙ ap indexOf (ids-of t is)
-
-pub indexed-rep : {x : Meaning} → Good x → Indexed (indexOf (idsOf (x .tables .orders))) (book.rep (x .tables) .keys) (book.rep (x .tables) .live)
-indexed-rep {x} g = record { few = kept g .live; size = kept g .keys; is = ap indexOf (sym (ids-of {b = book.rep (x .tables)} (x .tables) refl)) }
-
--- so it is with the insides, by the first of their symbols' two numbers
-pub fronts-of : {b : Book} (t : Tables) → b ≡ book.rep t → take (b .held) (b .fronts) ≡ frontsOf (t .insides)
-fronts-of {b} t is =
-    front-keys 64 (frontsOf (t .insides)) (ap (λ (c : Book). c .fronts) is) (ap (λ (c : Book). c .held) is ∙ sym (length-map (t .insides) (λ i. frontOf (i .symbol))))
-
-pub backs-of : {b : Book} (t : Tables) → b ≡ book.rep t → take (b .held) (b .backs) ≡ backsOf (t .insides)
-backs-of {b} t is =
-    front-keys 64 (backsOf (t .insides)) (ap (λ (c : Book). c .backs) is) (ap (λ (c : Book). c .held) is ∙ sym (length-map (t .insides) (λ i. backOf (i .symbol))))
-
-pub symbols-of : {b : Book} (t : Tables) {symbols : List ℕ} → b ≡ book.rep t → Paired symbols (b .fronts) (b .backs) (b .held) → symbols ≡ indexOf (frontsOf (t .insides))
-symbols-of t is paired = paired .is ∙ ap indexOf (fronts-of t is)
-
-pub held-at-rep : {x : Meaning} → Good x → Paired (indexOf (frontsOf (x .tables .insides))) (book.rep (x .tables) .fronts) (book.rep (x .tables) .backs) (book.rep (x .tables) .held)
-held-at-rep {x} g =
-    record { few = kept g .held; fronts = kept g .fronts; backs = kept g .backs; is = ap indexOf (sym (fronts-of {b = book.rep (x .tables)} (x .tables) refl)) }
-
 go-step : {x : Meaning} → Good x → (o : Option (List ℕ)) → x .waiting (x .next) ≡ o → Good (step feed x o)
 unfolding step
 go-step g none e = g
@@ -181,13 +154,13 @@ good-all [] all g = g
 good-all (s ∷ ss) all g = good-all ss (all .1) (good-one g s (all .0))
 
 -- a session that keeps the rule holds such a meaning, and nothing in it is left to apply
-pub record Stands (s : Session) : Type 0 where
+pub record Stands (s : Held) : Type 0 where
   pub state : Meaning
   pub good : Good state
   pub front : state .waiting (state .next) ≡ none
   pub same : s ≡ rep state
 
-pub stands : {s : Session} → Ruled s → Stands s
+pub stands : {s : Held} → Ruled s → Stands s
 stands r =
     let x : Meaning = takeAll overnight (opened feed (r .number)) (r .handed) in
     let settled : Rule overnight (r .number) ([] ++ accepted overnight (opened feed (r .number)) (r .handed)) x = takeAll-rule overnight (r .number) (overnight-judged feed) (r .handed) (opened-rule overnight (r .number)) in
@@ -198,16 +171,16 @@ stands r =
       same = r .given;
     }
 
-pub meaning : {s : Session} (h : Stands s) → view s ≡ h .state
+pub meaning : {s : Held} (h : Stands s) → view s ≡ h .state
 meaning h = ap view (h .same) ∙ view-rep (h .good)
 
-pub ruled-rule : {s : Session} (r : Ruled s) → Rule overnight (r .number) (accepted overnight (opened feed (r .number)) (r .handed)) (view s)
+pub ruled-rule : {s : Held} (r : Ruled s) → Rule overnight (r .number) (accepted overnight (opened feed (r .number)) (r .handed)) (view s)
 unfolding stands takeAll
 ruled-rule r =
     subst (Rule overnight (r .number) (accepted overnight (opened feed (r .number)) (r .handed))) (sym (meaning (stands r)))
     (takeAll-rule overnight (r .number) (overnight-judged feed) (r .handed) (opened-rule overnight (r .number)))
 
-pub ruled-means : {s : Session} (r : Ruled s) → view s ≡ takeAll overnight (opened feed (r .number)) (r .handed)
+pub ruled-means : {s : Held} (r : Ruled s) → view s ≡ takeAll overnight (opened feed (r .number)) (r .handed)
 unfolding stands
 ruled-means r = meaning (stands r)
 
@@ -221,7 +194,7 @@ unfolding takeAll
 take-more [] ts x = refl
 take-more (s ∷ ss) ts x = take-more ss ts (takeOne overnight x s)
 
-pub ruled-more : {s : Session} → Ruled s → (ts : List (List ℕ)) → AllBytes ts → Ruled (rep (takeAll overnight (view s) ts))
+pub ruled-more : {s : Held} → Ruled s → (ts : List (List ℕ)) → AllBytes ts → Ruled (rep (takeAll overnight (view s) ts))
 unfolding takeAll
 ruled-more {s} r ts bytes =
     record {

@@ -11,12 +11,10 @@ use Rattle.packet.specs.Header.{decided}
 use Rattle.window_taking.specs.Ten.{Differing, Ten, throughNine}
 use Rattle.window_taking.proofs.Ten.{ten-law, ten-passes}
 use Rattle.window_taking.proofs.Windows.{Within}
-use Rattle.session.specs.Meaning.{Ruled, Meaning, view}
-use Rattle.session.specs.Bursts.{answerOf, answered, appliedOf, refusalOf, takenOf}
+use Rattle.session.specs.Meaning.{Held, Ruled, Meaning, view}
+use Rattle.session.specs.Bursts.{answerOf, answered, appliedOf, refusalOf}
 use Rattle.session.specs.declared.packets.Answer.{Answer}
 use Rattle.session.specs.declared.packets.Answer.the-variants.{Applied, Refused}
-use Rattle.session.specs.declared.packets.Taken.{Taken}
-use Rattle.session.specs.declared.state.Session.{Session}
 use Rattle.session.proofs.States.{meaning, stands, within}
 
 -- an answer that refuses names the test
@@ -32,18 +30,15 @@ ten-refused : (applied : ℕ) {n : ℕ} → n ≡ 10 → answered applied n ≡ 
 unfolding answered
 ten-refused applied e = ap (answered applied) e
 
-module _ {s : Session} (rule : Ruled s) (packet : List ℕ) where
+module _ {s : Held} (rule : Ruled s) (packet : List ℕ) where
   pub ten-of : decided (throughNine (view s) packet) .0 ≡ 0 → Ten (view s) packet
   ten-of passes = ten-law (view s) packet (subst (λ (x : Meaning). Within (x .waiting) (x .next)) (sym (meaning (stands rule))) (within (stands rule .good))) passes
 
-  module _ {r : Taken} (taken : r ≡ takenOf (view s) packet) where
-    answer : r .answer ≡ answerOf (view s) packet
-    answer = ap (λ (t : Taken). t .answer) taken
-
-    pub ten-answered : decided (throughNine (view s) packet) .0 ≡ 0 → Differing (view s) packet → r .answer ≡ Refused 10
+  module _ {told : Answer} (answer : told ≡ answerOf (view s) packet) where
+    pub ten-answered : decided (throughNine (view s) packet) .0 ≡ 0 → Differing (view s) packet → told ≡ Refused 10
     ten-answered passes d = answer ∙ ten-refused (appliedOf (view s) packet) (ten-of passes .given d)
 
-    pub ten-differs : r .answer ≡ Refused 10 → (decided (throughNine (view s) packet) .0 ≡ 0) × Differing (view s) packet
+    pub ten-differs : told ≡ Refused 10 → (decided (throughNine (view s) packet) .0 ≡ 0) × Differing (view s) packet
     ten-differs h =
         let ten : refusalOf (view s) packet ≡ 10 = refused-by (appliedOf (view s) packet) (refusalOf (view s) packet) (sym answer ∙ h) in
         let passes : decided (throughNine (view s) packet) .0 ≡ 0 = ten-passes (view s) packet ten in

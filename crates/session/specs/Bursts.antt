@@ -11,13 +11,11 @@ use Rattle.merge.specs.State.{takeAll, takeOne}
 use Rattle.packet.specs.Header.{decided}
 use Rattle.window_taking.specs.Taking.{takeTests}
 use Rattle.window_taking.specs.Turns.{framesOf, packetsIn}
-use Rattle.session.specs.Meaning.{Meaning, overnight, rep}
+use Rattle.session.specs.Meaning.{Meaning, overnight}
 use Rattle.session.specs.declared.packets.Answer.{Answer}
 use Rattle.session.specs.declared.packets.Answer.the-variants.{Applied, Refused}
-use Rattle.session.specs.declared.packets.Taken.{Taken}
 use Rattle.session.specs.declared.packets.Count.{Count}
 use Rattle.session.specs.declared.packets.Count.the-variants as count
-use Rattle.session.specs.declared.packets.TakenAll.{TakenAll}
 
 -- ---- one packet
 
@@ -34,9 +32,6 @@ answered applied refusal = cond (eqb refusal 0) (Applied applied) (Refused refus
 
 abbrev pub answerOf : Meaning → List ℕ → Answer
 answerOf x s = answered (appliedOf x s) (refusalOf x s)
-
-abbrev pub takenOf : Meaning → List ℕ → Taken
-takenOf x s = record { session = rep (takeOne overnight x s); answer = answerOf x s }
 
 -- ---- a burst
 
@@ -56,11 +51,11 @@ rowsOf x [] = []
 rowsOf x (s ∷ ss) = rowOf x s ++ rowsOf (takeOne overnight x s) ss
 
 -- 11 exactly if the list is too short for the answers, nothing changed
-unfoldable pub burstOf : Meaning → List (List ℕ) → ℕ → TakenAll
-burstOf x packets n =
-    cond (ltb n (4 * length packets))
-    (record { session = rep x; count = count.Refused 11 })
-    (record { session = rep (takeAll overnight x packets); count = count.Packets (length packets) })
+unfoldable pub burstOf : Meaning → List (List ℕ) → ℕ → Meaning
+burstOf x packets n = cond (ltb n (4 * length packets)) x (takeAll overnight x packets)
+
+unfoldable pub countOf : List (List ℕ) → ℕ → Count
+countOf packets n = cond (ltb n (4 * length packets)) (count.Refused 11) (count.Packets (length packets))
 
 unfoldable pub answersAfter : Meaning → List (List ℕ) → List ℕ → List ℕ
 answersAfter x packets answers = cond (ltb (length answers) (4 * length packets)) answers (splice answers 0 (rowsOf x packets))

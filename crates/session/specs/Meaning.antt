@@ -1,17 +1,18 @@
--- What a session means: the numbers next and end, the message that waits under each number, and the tables. The session's
--- arrays hold each meaning in one way only.
+-- What a session means: the numbers next and end, the message that waits under each number, and the tables. What a host holds
+-- holds each meaning in one way only.
 -- Assumes nothing.
 use mathlib.Core.Path.{_≡_}
 use mathlib.Core.List.{List, [], _∷_}
 use Prim.Native.Nat.{ℕ, _≤_}
+use lib.ListN.{length, getD, take}
 use Rattle.wire.specs.Number.{Bytes}
 use Rattle.merge.specs.State as merge
 use Rattle.merge.specs.State.{Channel, Feed, opened, takeAll, takeOne}
 use Rattle.book.specs.Applying.{Rule, strict, applyUnder}
 use Rattle.book.specs.Tables as book
-use Rattle.book.specs.Tables.{Tables, fresh, frontsOf, idsOf}
-use Rattle.book.specs.declared.tables.Book.{Book}
-use Rattle.book_index.specs.Chains.{indexOf}
+use Rattle.book.specs.Tables.{Tables, fresh}
+use Rattle.book.specs.declared.tables.Faults.{Faults}
+use Rattle.book_room.specs.Room.{insidesIn, roomOf}
 use Rattle.window_taking.specs.Keeping.{waitingOf, windowFor}
 use Rattle.window_taking.specs.Taking.{channel}
 use Rattle.session.specs.declared.state.Session.{Session}
@@ -29,58 +30,68 @@ feed = feedUnder strict
 abbrev pub overnight : Channel (List ℕ) (List ℕ) Tables
 overnight = channel feed
 
--- the tables of a session, as a book has them
-abbrev pub bookIn : Session → Book
-bookIn s =
+-- what a host holds: the session, and the room and the window that it lends with each call
+pub record Held : Type 0 where
+  pub session : Session
+  pub room : List ℕ
+  pub window : List ℕ
+
+abbrev pub held : Session → List ℕ → List ℕ → Held
+held session room window = record { session = session; room = room; window = window }
+
+-- the sizes of what is lent
+pub record Sized (room window : List ℕ) : Type 0 where
+  pub numbers : length room ≡ 2306
+  pub bytes : length window ≡ 32768
+
+-- the one way in which a meaning is held: the orders in their places, next, end and the tables' numbers in the room, and each message
+-- that waits at its place of the window
+abbrev pub rep : Meaning → Held
+rep x =
     record {
-      orders = s .orders;
-      keys = s .keys;
-      live = s .live;
-      insides = s .insides;
-      fronts = s .fronts;
-      backs = s .backs;
-      held = s .held;
-      code = s .code;
-      faults = s .faults;
+      session = record { orders = book.rep (x .tables) .orders };
+      room = roomOf (x .next) (x .end) (book.rep (x .tables));
+      window = windowFor (x .waiting) (x .next);
     }
 
--- the session with these tables, indexes, window, next and end
-abbrev pub sessionOf : Book → List ℕ → List ℕ → List ℕ → ℕ → ℕ → Session
-sessionOf b index symbols window next end =
+-- the numbers in the room
+abbrev pub nextIn : List ℕ → ℕ
+nextIn room = getD room 0 0
+
+abbrev pub endIn : List ℕ → ℕ
+endIn room = getD room 1 0
+
+abbrev pub liveIn : List ℕ → ℕ
+liveIn room = getD room 2 0
+
+abbrev pub codeIn : List ℕ → ℕ
+codeIn room = getD room 4 0
+
+abbrev pub faultsIn : List ℕ → Faults
+faultsIn room = record { number = getD room 5 0; count = getD room 6 0; reason = getD room 7 0 }
+
+-- the meaning of what is held
+abbrev pub tablesIn : Session → List ℕ → Tables
+tablesIn s room = record { orders = take (liveIn room) (s .orders); insides = insidesIn room; code = codeIn room; faults = faultsIn room }
+
+abbrev pub view : Held → Meaning
+view h =
     record {
-      orders = b .orders;
-      keys = b .keys;
-      insides = b .insides;
-      fronts = b .fronts;
-      backs = b .backs;
-      live = b .live;
-      held = b .held;
-      next = next;
-      end = end;
-      faults = b .faults;
-      index = index;
-      symbols = symbols;
-      code = b .code;
-      window = window;
+      next = nextIn (h .room);
+      end = endIn (h .room);
+      waiting = waitingOf (h .window) (nextIn (h .room));
+      tables = tablesIn (h .session) (h .room);
     }
-
--- the one session that holds a meaning
-abbrev pub rep : Meaning → Session
-rep x = sessionOf (book.rep (x .tables)) (indexOf (idsOf (x .tables .orders))) (indexOf (frontsOf (x .tables .insides))) (windowFor (x .waiting) (x .next)) (x .next) (x .end)
-
--- the meaning of a session
-abbrev pub view : Session → Meaning
-view s = record { next = s .next; end = s .end; waiting = waitingOf (s .window) (s .next); tables = book.view (bookIn s) }
 
 -- byte strings
 abbrev pub AllBytes : List (List ℕ) → Type 0
 AllBytes [] = Unit {0}
 AllBytes (s ∷ ss) = Bytes s × AllBytes ss
 
--- the rule: an opening, at some 32-bit number, and the packets handed in since have given this session
-pub record Ruled (s : Session) : Type 0 where
+-- the rule, over all that a host holds: an opening, at some 32-bit number, and the packets handed in since have given it
+pub record Ruled (h : Held) : Type 0 where
   pub number : ℕ
   pub small : number ≤ 4294967295
   pub handed : List (List ℕ)
   pub bytes : AllBytes handed
-  pub given : s ≡ rep (takeAll overnight (opened feed number) handed)
+  pub given : h ≡ rep (takeAll overnight (opened feed number) handed)

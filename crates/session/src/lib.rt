@@ -1,7 +1,8 @@
 // The session: a fresh one for an opening number, taking packets, asking for what was lost, and the questions.
 
 pub mod asking;
-pub mod finding;
 pub mod packets;
+pub mod passing;
+pub mod quoting;
 pub mod running;
 pub mod state;

@@ -1,15 +1,18 @@
 // Taking packets: one, or a burst of them. Both go through one engine.
 use crate::running::run;
 use crate::state::Session;
+use book_room::room::Room;
+use window::places::Window;
 use window_taking::burst::whole;
 ghost use mathlib.Core.Path.{_≡_};
 ghost use mathlib.Core.Bool.{cond};
 ghost use Prim.Native.Nat.{_≤_};
 ghost use lib.Dec.{eqb};
 ghost use lib.ListN.{length};
-ghost use Rattle.session.specs.Meaning.{view, Ruled};
+ghost use Rattle.merge.specs.State.{takeOne};
+ghost use Rattle.session.specs.Meaning.{held, overnight, rep, view, Ruled};
 ghost use Rattle.window_taking.specs.Turns.{packetsIn};
-ghost use Rattle.session.specs.Bursts.{takenOf, burstOf, countIf, answersAfter, answered};
+ghost use Rattle.session.specs.Bursts.{answerOf, burstOf, countIf, countOf, answersAfter, answered};
 
 pub enum Answer {
     // How many messages were applied.
@@ -44,13 +47,14 @@ fn answer_by(applied: u64, refusal: u64) -> Answer
 }
 
 // One packet: the lent bytes are the whole of it.
-pub fn take(session: Session, packet: &[u8]) -> Taken
-    requires { ⌜ Ruled session ⌝ }
-    ensures taken { λ r. ⌜ r ≡ takenOf (view session) (now (packet .entry)) ⌝ }
-    ensures rule { λ r. ⌜ Ruled (r .session) ⌝ }
+pub fn take(session: Session, room: &mut Room, window: &mut Window, packet: &[u8]) -> Taken
+    requires { ⌜ Ruled (held session (now room) (now window)) ⌝ }
+    ensures taken { λ r. ⌜ held (r .session) (now (room .exit)) (now (window .exit)) ≡ rep (takeOne overnight (view (held session (now (room .entry)) (now (window .entry)))) (now (packet .entry))) ⌝ }
+    ensures answer { λ r. ⌜ r .answer ≡ answerOf (view (held session (now (room .entry)) (now (window .entry)))) (now (packet .entry)) ⌝ }
+    ensures rule { λ r. ⌜ Ruled (held (r .session) (now (room .exit)) (now (window .exit))) ⌝ }
 {
     let mut answers = [0u64; 4];
-    let after = run(session, packet, true, 1, &mut answers);
+    let after = run(session, room, window, packet, true, 1, &mut answers);
     let answer = answer_by(answers[0], answers[1]);
     Taken {
         session: after,
@@ -76,16 +80,23 @@ fn count_of(fits: bool, count: usize) -> Count
 
 // Several packets, each behind its length of 2 bytes. Four numbers answer each: how many messages
 // were applied, the refusal or 0, then next and end.
-pub fn burst(session: Session, packets: &[u8], answers: &mut [u64]) -> TakenAll
-    requires { ⌜ Ruled session ⌝ }
-    ensures burst { λ r. ⌜ r ≡ burstOf (view session) (packetsIn (now (packets .entry))) (length (now (answers .entry))) ⌝ }
-    ensures answers { λ r. ⌜ now (answers .exit) ≡ answersAfter (view session) (packetsIn (now (packets .entry))) (now (answers .entry)) ⌝ }
-    ensures rule { λ r. ⌜ Ruled (r .session) ⌝ }
+pub fn burst(
+    session: Session,
+    room: &mut Room,
+    window: &mut Window,
+    packets: &[u8],
+    answers: &mut [u64],
+) -> TakenAll
+    requires { ⌜ Ruled (held session (now room) (now window)) ⌝ }
+    ensures taken { λ r. ⌜ held (r .session) (now (room .exit)) (now (window .exit)) ≡ rep (burstOf (view (held session (now (room .entry)) (now (window .entry)))) (packetsIn (now (packets .entry))) (length (now (answers .entry)))) ⌝ }
+    ensures count { λ r. ⌜ r .count ≡ countOf (packetsIn (now (packets .entry))) (length (now (answers .entry))) ⌝ }
+    ensures answers { λ r. ⌜ now (answers .exit) ≡ answersAfter (view (held session (now (room .entry)) (now (window .entry)))) (packetsIn (now (packets .entry))) (now (answers .entry)) ⌝ }
+    ensures rule { λ r. ⌜ Ruled (held (r .session) (now (room .exit)) (now (window .exit))) ⌝ }
 {
     let count = whole(packets);
     let fits = count <= answers.len() / 4;
     let due = due_of(fits, count);
-    let after = run(session, packets, false, due, answers);
+    let after = run(session, room, window, packets, false, due, answers);
     TakenAll {
         session: after,
         count: count_of(fits, count),

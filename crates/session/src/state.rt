@@ -1,33 +1,22 @@
-// The session's type, by value.
-use book::tables::Book;
-use book::tables::Faults;
-use book::tables::Inside;
+// The session's type, by value, and what is lent beside it with each call.
+use book::tables;
 use book::tables::Order;
-use book::tables::no_inside;
 use book::tables::no_order;
+use book_room::room;
+use book_room::room::Room;
 use window::places;
+use window::places::Window;
 ghost use mathlib.Core.Path.{_≡_};
+ghost use lib.ListN.{length, replicate};
 ghost use Rattle.merge.specs.State.{opened};
-ghost use Rattle.session.specs.Meaning.{bookIn, feed, rep, Ruled};
+ghost use Rattle.session.specs.Meaning.{feed, held, rep, Ruled, Sized};
 
-// The tables as a book has them, each a field of its own so that it is written in place; the indexes
-// over the orders' ids and the insides' symbols; the window of messages that wait for their turn; the
-// lowest number not yet carried and the largest known end.
+// The records of the live orders. All else is lent: the room of numbers (next, end, the counts, the code,
+// the faults, the look-ups, the insides) and the window of messages that wait for their turn. A host holds
+// the three together and lends the same room and window with each call.
+#[repr(C)]
 pub struct Session {
     pub orders: [Order; Session::ORDERS],
-    pub keys: [u64; Session::ORDERS],
-    pub insides: [Inside; Session::INSIDES],
-    pub fronts: [u64; Session::INSIDES],
-    pub backs: [u64; Session::INSIDES],
-    pub live: usize,
-    pub held: usize,
-    pub next: u64,
-    pub end: u64,
-    pub faults: Faults,
-    pub index: [u16; Session::CELLS],
-    pub symbols: [u16; Session::CELLS],
-    pub code: u8,
-    pub window: [u8; Session::PLACES],
 }
 
 impl Session {
@@ -43,66 +32,50 @@ impl Session {
 
     pub const WINDOW: usize = places::NUMBERS as usize;
 
-    pub const ORDERS: usize = Book::ORDERS;
+    pub const ORDERS: usize = tables::ORDERS;
 
-    pub const INSIDES: usize = Book::INSIDES;
+    pub const INSIDES: usize = tables::INSIDES;
 
-    // An index's cells: a follower for each place, and the heads of its chains.
-    pub const CELLS: usize = book_index::CELLS;
+    // The numbers of the room, and the window's bytes: a longest message for each number.
+    pub const ROOM: usize = room::NUMBERS;
 
-    // The window's bytes: a longest message for each number.
     pub const PLACES: usize = places::BYTES;
 
-    pub fn open(number: u32) -> Self
-        ensures session { λ r. ⌜ r ≡ rep (opened feed number) ⌝ }
-        ensures rule { λ r. ⌜ Ruled r ⌝ }
+    // Whatever stood in the room and the window is gone.
+    pub fn open(number: u32, room: &mut Room, window: &mut Window) -> Self
+        requires { ⌜ Sized (now room) (now window) ⌝ }
+        ensures opened { λ r. ⌜ held r (now (room .exit)) (now (window .exit)) ≡ rep (opened feed number) ⌝ }
+        ensures rule { λ r. ⌜ Ruled (held r (now (room .exit)) (now (window .exit))) ⌝ }
     {
         let order = no_order();
-        let inside = no_inside();
-        let faults = Faults {
-            number: 0,
-            count: 0,
-            reason: 0,
-        };
         let first = number as u64;
+        clear(room);
+        room[room::NEXT] = first;
+        room[room::END] = first;
+        free(window);
         Session {
             orders: [order; Self::ORDERS],
-            keys: [0u64; Self::ORDERS],
-            insides: [inside; Self::INSIDES],
-            fronts: [0u64; Self::INSIDES],
-            backs: [0u64; Self::INSIDES],
-            live: 0,
-            held: 0,
-            next: first,
-            end: first,
-            faults,
-            index: [0u16; Self::CELLS],
-            symbols: [0u16; Self::CELLS],
-            code: 0,
-            window: [0u8; Self::PLACES],
         }
     }
 }
 
-// A part: the tables as a book, for the questions.
-pub fn book_of(session: Session) -> Book
-    ensures { λ r. ⌜ r ≡ bookIn session ⌝ }
+// Every number 0, and every byte.
+fn clear(room: &mut [u64])
+    ensures { λ _. ⌜ now (room .exit) ≡ replicate (length (now (room .entry))) 0 ⌝ }
 {
-    let orders = session.orders;
-    let keys = session.keys;
-    let insides = session.insides;
-    let fronts = session.fronts;
-    let backs = session.backs;
-    let faults = session.faults;
-    Book {
-        orders,
-        keys,
-        live: session.live,
-        insides,
-        fronts,
-        backs,
-        held: session.held,
-        code: session.code,
-        faults,
+    let mut k = 0;
+    while k < room.len() {
+        room[k] = 0;
+        k += 1;
+    }
+}
+
+fn free(window: &mut [u8])
+    ensures { λ _. ⌜ now (window .exit) ≡ replicate (length (now (window .entry))) 0 ⌝ }
+{
+    let mut k = 0;
+    while k < window.len() {
+        window[k] = 0;
+        k += 1;
     }
 }

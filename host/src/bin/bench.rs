@@ -14,14 +14,16 @@ use host::outcome::{run_twin, Ends, ROW};
 const OPENING: u32 = 1_000;
 const SEED: u64 = 20_000;
 const CLEAN: Lines = Lines {
+    most: 6,
+    heartbeats: 0,
     loss: 0,
     swapped: 0,
     damaged: 0,
     second: false,
 };
 const BURSTS: [usize; 5] = [1, 8, 64, 512, usize::MAX];
-/// The bytes of the library's session: tables, window, two numbers.
-const SESSION: usize = 52_272;
+/// The bytes of the library's session by value: the order table.
+const SESSION: usize = 10_240;
 
 fn main() {
     let mut words = std::env::args().skip(1);
@@ -38,19 +40,26 @@ fn main() {
     let two = Lines {
         loss: 20,
         swapped: 20,
-        damaged: 0,
         second: true,
+        ..CLEAN
     };
-    let damaged = Lines {
-        loss: 20,
-        swapped: 20,
-        damaged: 50,
+    let damaged = Lines { damaged: 50, ..two };
+    let normal = Lines {
+        most: 13,
+        heartbeats: 100,
+        loss: 10,
+        swapped: 10,
         second: true,
+        ..CLEAN
     };
     for (name, lines) in [
         ("one line, in order", CLEAN),
         ("two lines, 2 % lost, 2 % late", two),
         ("two lines, 2 % lost, 2 % late, 5 % damaged", damaged),
+        (
+            "two lines, 1 % lost, 1 % late, 7 messages a packet, heartbeats",
+            normal,
+        ),
     ] {
         let capture = feed::lines(SEED, OPENING, packets, &lines, Manners::plain());
         measure(name, &capture, &BURSTS, rounds);

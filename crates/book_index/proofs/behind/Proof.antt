@@ -1,12 +1,15 @@
 -- Each turn of the walk stands at a cell of the chain behind the place, and the cells fall.
 -- Assumes nothing.
+mod Points
 use mathlib.Core.Path.{_≡_}
 use mathlib.Core.List.{List}
 use Prim.Native.Nat.{ℕ, _<_}
 use native.Mathlib.Omega.{arith}
 use Rattle.book_index.specs.Chains.{chainOf, indexBy}
+use Rattle.book_index.proofs.Chained.{size-by}
 use Rattle.book_index.proofs.Walks.{Nearing, near-head, near-most, near-end, near-on}
 use borrow.Author.Needs.{needs}
+use Rattle.book_index.proofs.behind.Proof.Points as to
 use Rattle.book_index.proofs.behind.Statement.{statement}
 use Rattle.book_index.proofs.behind.Tie as tie
 
@@ -17,28 +20,28 @@ abbrev μ-loop : tie.MeasureT-loop
 μ-loop index key place cell₀ cell = cell
 
 loop-holds : tie.Need-loop-holds Inv-loop μ-loop
-loop-holds c = (c .head .ensures .1, λ chains is. near-head _ chains _ _ _ is (c .before .pre .1) (c .head .ensures .0))
+loop-holds c = (c .head .ensures .1, λ chains is. near-head _ chains _ _ _ is (to.entry-from-head c .pre .1) (c .head .ensures .0))
 
-cast-at : tie.Need-cast-at Inv-loop μ-loop
-cast-at c =
-    let pre = c .before .before .before .pre .0 in
-    let most = near-most _ (pre .0) _ _ _ (pre .1) (c .before .loop .inv .1 (pre .0) (pre .1)) in
-    omega arith
+shared-slice-read-at : tie.Need-shared-slice-read-at Inv-loop μ-loop
+shared-slice-read-at c = let size = size-by _ (to.entry-from-shared-slice-known2 c .pre .0 .1) in omega arith
 
 returns : tie.Need-returns Inv-loop μ-loop
-returns c = (c .before .before .loop .inv .0, λ chains is. near-end _ chains _ _ _ is (c .before .before .loop .inv .1 chains is) (c .if1 .taken))
+returns c =
+    let inv = to.loop-from-then1 c .loop .inv in
+    (inv .0, λ chains is. near-end _ chains _ _ _ is (inv .1 chains is) (c .if1 .taken))
 
 loop-less : tie.Need-loop-less Inv-loop μ-loop
 loop-less c =
-    let pre = c .before .before .before .before .pre .0 in
-    let most = near-most _ (pre .0) _ _ _ (pre .1) (c .before .before .loop .inv .1 (pre .0) (pre .1)) in
+    let pre = to.entry-from-else1 c .pre .0 in
+    let most = near-most _ (pre .0) _ _ _ (pre .1) (to.loop-from-else1 c .loop .inv .1 (pre .0) (pre .1)) in
     omega arith
 
 loop-again : tie.Need-loop-again Inv-loop μ-loop
 loop-again c =
-    let pre = c .before .before .before .before .pre .0 in
-    let most = near-most _ (pre .0) _ _ _ (pre .1) (c .before .before .loop .inv .1 (pre .0) (pre .1)) in
-    (omega arith, λ chains is. near-on _ chains _ _ _ is (c .before .before .loop .inv .1 chains is) (c .if1 .left))
+    let pre = to.entry-from-else1 c .pre .0 in
+    let inv = to.loop-from-else1 c .loop .inv in
+    let most = near-most _ (pre .0) _ _ _ (pre .1) (inv .1 (pre .0) (pre .1)) in
+    (omega arith, λ chains is. near-on _ chains _ _ _ is (inv .1 chains is) (c .if1 .left))
 
 pub behind-spec : {M : Type 1} → statement M
 behind-spec =
@@ -49,8 +52,7 @@ behind-spec =
     (λ c κs. search needs)
     loop-holds
     (λ c. search needs)
-    (λ c. search needs)
-    cast-at
+    shared-slice-read-at
     (λ c. search needs)
     returns
     (λ c. search needs)

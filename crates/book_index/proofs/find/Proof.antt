@@ -3,7 +3,8 @@
 mod Points
 use native.Mathlib.Omega.{arith}
 use lib.ListN.{getD, take}
-use Rattle.book_index.proofs.Walks.{Seeking, seek-key, is-last, seek-head, seek-most, seek-none, seek-falls, seek-live, seek-found, seek-on}
+use Rattle.book_index.proofs.Laws.{size-of}
+use Rattle.book_index.proofs.Walks.{Seeking, seek-key, is-last, seek-head, seek-none, seek-falls, seek-live, seek-found, seek-on}
 use borrow.Author.Needs.{needs}
 use Rattle.book_index.proofs.find.Proof.Points as to
 use Rattle.book_index.proofs.find.Statement.{statement}
@@ -18,8 +19,11 @@ abbrev μ-loop : tie.MeasureT-loop
 loop-holds : tie.Need-loop-holds Inv-loop μ-loop
 loop-holds c = seek-head (seek-key _ _ _ _ (to.entry-from-head c .pre)) _ (c .head .ensures .0)
 
-cast-at : tie.Need-cast-at Inv-loop μ-loop
-cast-at c = let most = seek-most (seek-key _ _ _ _ (to.entry-from-at c .pre)) (to.loop-from-at c .loop .inv) in omega arith
+shared-slice-read-at : tie.Need-shared-slice-read-at Inv-loop μ-loop
+shared-slice-read-at c =
+    let size = size-of _ (to.entry-from-shared-slice-known3 c .pre .is) in
+    let within = to.loop-from-shared-slice-known3 c .loop .inv .within in
+    omega arith
 
 returns : tie.Need-returns Inv-loop μ-loop
 returns c =
@@ -31,10 +35,11 @@ mul-if2 c =
     let l = seek-live (seek-key _ _ _ _ (to.entry-from-else1 c .pre)) (to.loop-from-else1 c .loop .inv) (c .if1 .left) in
     omega arith
 
-element-copy-out-if2 : tie.Need-element-copy-out-if2 Inv-loop μ-loop
-element-copy-out-if2 c =
-    let l = seek-live (seek-key _ _ _ _ (to.entry-from-else1 c .pre)) (to.loop-from-else1 c .loop .inv) (c .if1 .left) in
-    omega arith
+shared-slice-read-if2 : tie.Need-shared-slice-read-if2 Inv-loop μ-loop
+shared-slice-read-if2 c =
+    let x = to.entry-from-shared-slice-known4 c .pre in
+    let l = seek-live (seek-key _ _ _ _ x) (to.loop-from-shared-slice-known4 c .loop .inv) (to.else1-from-shared-slice-known4 c .if1 .left) in
+    omega (arith, x .size, x .few)
 
 returns-2 : tie.Need-returns-2 Inv-loop μ-loop
 returns-2 c =
@@ -61,12 +66,11 @@ find-spec =
     (λ c κs. search needs)
     loop-holds
     (λ c. search needs)
-    (λ c. search needs)
-    cast-at
+    shared-slice-read-at
     returns
     (λ c. search needs)
     mul-if2
-    element-copy-out-if2
+    shared-slice-read-if2
     returns-2
     loop-less
     loop-again)

@@ -4,7 +4,8 @@ mod Points
 use native.Mathlib.Omega.{arith}
 use lib.ListN.{take}
 use Rattle.book_index.specs.Pairs.{bothAt}
-use Rattle.book_index.proofs.Walks.{Seeking, seek-head, seek-most, seek-none, seek-falls, seek-live, seek-found, seek-on}
+use Rattle.book_index.proofs.Laws.{size-of}
+use Rattle.book_index.proofs.Walks.{Seeking, seek-head, seek-none, seek-falls, seek-live, seek-found, seek-on}
 use Rattle.book_index.proofs.Pairs.{both-here, both-are, seek-pair, is-pair}
 use borrow.Author.Needs.{needs}
 use Rattle.book_index.proofs.pair.Proof.Points as to
@@ -20,8 +21,11 @@ abbrev μ-loop : tie.MeasureT-loop
 loop-holds : tie.Need-loop-holds Inv-loop μ-loop
 loop-holds c = seek-head (seek-pair _ _ _ _ (to.entry-from-head c .pre) _ _) _ (c .head .ensures .0)
 
-cast-at : tie.Need-cast-at Inv-loop μ-loop
-cast-at c = let most = seek-most (seek-pair _ _ _ _ (to.entry-from-at c .pre) _ _) (to.loop-from-at c .loop .inv) in omega arith
+shared-slice-read-at : tie.Need-shared-slice-read-at Inv-loop μ-loop
+shared-slice-read-at c =
+    let size = size-of _ (to.entry-from-shared-slice-known4 c .pre .is) in
+    let within = to.loop-from-shared-slice-known4 c .loop .inv .within in
+    omega arith
 
 returns : tie.Need-returns Inv-loop μ-loop
 returns c =
@@ -33,10 +37,11 @@ mul-if2 c =
     let l = seek-live (seek-pair _ _ _ _ (to.entry-from-else1 c .pre) _ _) (to.loop-from-else1 c .loop .inv) (c .if1 .left) in
     omega arith
 
-element-copy-out-if2 : tie.Need-element-copy-out-if2 Inv-loop μ-loop
-element-copy-out-if2 c =
-    let l = seek-live (seek-pair _ _ _ _ (to.entry-from-else1 c .pre) _ _) (to.loop-from-else1 c .loop .inv) (c .if1 .left) in
-    omega arith
+shared-slice-read-if2 : tie.Need-shared-slice-read-if2 Inv-loop μ-loop
+shared-slice-read-if2 c =
+    let x = to.entry-from-shared-slice-known5 c .pre in
+    let l = seek-live (seek-pair _ _ _ _ x _ _) (to.loop-from-shared-slice-known5 c .loop .inv) (to.else1-from-shared-slice-known5 c .if1 .left) in
+    omega (arith, x .fronts, x .few)
 
 mul-if3 : tie.Need-mul-if3 Inv-loop μ-loop
 mul-if3 c =
@@ -44,11 +49,11 @@ mul-if3 c =
     (to.else1-from-then2 c .if1 .left) in
     omega arith
 
-element-copy-out-if3 : tie.Need-element-copy-out-if3 Inv-loop μ-loop
-element-copy-out-if3 c =
-    let l = seek-live (seek-pair _ _ _ _ (to.entry-from-then2 c .pre) _ _) (to.loop-from-then2 c .loop .inv)
-    (to.else1-from-then2 c .if1 .left) in
-    omega arith
+shared-slice-read-if3 : tie.Need-shared-slice-read-if3 Inv-loop μ-loop
+shared-slice-read-if3 c =
+    let x = to.entry-from-shared-slice-known6 c .pre in
+    let l = seek-live (seek-pair _ _ _ _ x _ _) (to.loop-from-shared-slice-known6 c .loop .inv) (to.else1-from-shared-slice-known6 c .if1 .left) in
+    omega (arith, x .backs, x .few)
 
 returns-2 : tie.Need-returns-2 Inv-loop μ-loop
 returns-2 c =
@@ -87,14 +92,13 @@ pair-spec =
     (λ c κs. search needs)
     loop-holds
     (λ c. search needs)
-    (λ c. search needs)
-    cast-at
+    shared-slice-read-at
     returns
     (λ c. search needs)
     mul-if2
-    element-copy-out-if2
+    shared-slice-read-if2
     mul-if3
-    element-copy-out-if3
+    shared-slice-read-if3
     returns-2
     loop-less
     loop-again

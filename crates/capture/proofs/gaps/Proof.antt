@@ -7,10 +7,10 @@ use Rattle.capture.proofs.gaps.Statement.{statement}
 use Rattle.capture.proofs.gaps.Tie as tie
 
 abbrev Inv-loop : tie.InvT-loop
-Inv-loop session out₀ end₀ from₀ left₀ out end from left = length out ≡ 8192
+Inv-loop room window out₀ end₀ from₀ left₀ out end from left = length out ≡ 8192
 
 abbrev μ-loop : tie.MeasureT-loop
-μ-loop session out₀ end₀ from₀ left₀ out end from left = left
+μ-loop room window out₀ end₀ from₀ left₀ out end from left = left
 
 pub gaps-spec : {M : Type 1} → statement M
 gaps-spec =
@@ -25,7 +25,7 @@ gaps-spec =
     (λ c κs. search needs)
     (λ c. search needs)
     (λ c κs. search needs)
-    (λ c. search needs)
+    (λ c κs. search needs)
     (λ c. search needs)
     (λ c. search needs)
     (λ c. search needs)

@@ -1,18 +1,18 @@
--- `capture::replay` keeps the session's rule, stays within what is held, and ends: each record has its head.
+-- `capture::replay` keeps the session's rule, stays within the bytes, and ends: each record has its head.
 -- Assumes nothing.
 use mathlib.Core.Path.{_≡_}
 use Prim.Native.Nat.{_≤_, _-_}
 use lib.ListN.{length}
-use Rattle.session.specs.Meaning.{Ruled}
+use Rattle.session.specs.Meaning.{held, Ruled}
 use borrow.Author.Needs.{needs}
 use Rattle.capture.proofs.replay.Statement.{statement}
 use Rattle.capture.proofs.replay.Tie as tie
 
 abbrev Inv-loop : tie.InvT-loop
-Inv-loop fresh held session₀ out₀ end₀ at₀ session out end at = Ruled session × (at ≤ length held) × (length out ≡ 8192)
+Inv-loop room₀ window₀ fresh bytes session₀ out₀ end₀ at₀ room window session out end at = Ruled (held session room window) × (at ≤ length bytes) × (length out ≡ 8192)
 
 abbrev μ-loop : tie.MeasureT-loop
-μ-loop fresh held session₀ out₀ end₀ at₀ session out end at = length held - at
+μ-loop room₀ window₀ fresh bytes session₀ out₀ end₀ at₀ room window session out end at = length bytes - at
 
 pub replay-spec : {M : Type 1} → statement M
 replay-spec =
@@ -32,6 +32,8 @@ replay-spec =
     (λ c. search needs)
     (λ c κs. search needs)
     (λ c. search needs)
+    (λ c κs. search needs)
+    (λ c κs. search needs)
     (λ c κs. search needs)
     (λ c. search needs)
     (λ c. search needs)

@@ -3,16 +3,16 @@
 use mathlib.Core.Path.{_≡_}
 use Prim.Native.Nat.{_≤_}
 use lib.ListN.{length}
-use Rattle.session.specs.Meaning.{Ruled}
+use Rattle.session.specs.Meaning.{held, Ruled}
 use borrow.Author.Needs.{needs}
 use Rattle.desk.proofs.main.Statement.{statement}
 use Rattle.desk.proofs.main.Tie as tie
 
 abbrev Inv-loop : tie.InvT-loop
-Inv-loop buf₀ session₀ from₀ to₀ ended₀ turns₀ buf session from to ended turns = Ruled session × (from ≤ to) × (to ≤ length buf) × (length buf ≡ 16384)
+Inv-loop buf₀ room₀ window₀ session₀ from₀ to₀ ended₀ turns₀ buf room window session from to ended turns = Ruled (held session room window) × (from ≤ to) × (to ≤ length buf) × (length buf ≡ 16384)
 
 abbrev μ-loop : tie.MeasureT-loop
-μ-loop buf₀ session₀ from₀ to₀ ended₀ turns₀ buf session from to ended turns = turns
+μ-loop buf₀ room₀ window₀ session₀ from₀ to₀ ended₀ turns₀ buf room window session from to ended turns = turns
 
 pub main-spec : {M : Type 1} → statement M
 main-spec =

@@ -7,7 +7,7 @@ use Rattle.book.proofs.deciding.add.Statement.{statement}
 use Rattle.book.proofs.deciding.add.Tie as tie
 
 returns : tie.Need-returns
-returns c = c .added .ensures ∙ add-is _ _ (c .before .before .before .before .before .before .pre .value) (c .before .before .is-value .ensures) (c .before .before .before .before .add .ensures) (c .before .add2 .ensures)
+returns c seen o l = c .added .ensures ∙ add-is _ seen (c .before .before .before .before .before .before .pre .value) (c .before .before .is-value .ensures) o l (c .before .before .before .before .add .ensures) (c .before .add2 .ensures)
 
 pub add-spec : {M : Type 1} → statement M
 add-spec =

@@ -7,7 +7,7 @@ use Rattle.book.proofs.deciding.delete.Statement.{statement}
 use Rattle.book.proofs.deciding.delete.Tie as tie
 
 returns : tie.Need-returns
-returns c = c .deleted .ensures ∙ delete-is _ _ (c .before .before .before .before .pre .value) (c .before .before .is-value .ensures) (c .before .delete .ensures)
+returns c seen o = c .deleted .ensures ∙ delete-is _ seen (c .before .before .before .before .pre .value) (c .before .before .is-value .ensures) o (c .before .delete .ensures)
 
 pub delete-spec : {M : Type 1} → statement M
 delete-spec =

@@ -7,7 +7,7 @@ use Rattle.book.proofs.deciding.execution.Statement.{statement}
 use Rattle.book.proofs.deciding.execution.Tie as tie
 
 returns : tie.Need-returns
-returns c = c .executed .ensures ∙ execution-is _ _ (c .before .before .before .before .before .pre .value) (c .before .before .is-value .ensures) (c .before .before .before .execution .ensures) (c .before .execution2 .ensures)
+returns c seen o q p = c .executed .ensures ∙ execution-is _ seen (c .before .before .before .before .before .pre .value) (c .before .before .is-value .ensures) o q p (c .before .before .before .execution .ensures) (c .before .execution2 .ensures)
 
 pub execution-spec : {M : Type 1} → statement M
 execution-spec =

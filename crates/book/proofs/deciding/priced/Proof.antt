@@ -7,7 +7,7 @@ use Rattle.book.proofs.deciding.priced.Statement.{statement}
 use Rattle.book.proofs.deciding.priced.Tie as tie
 
 returns : tie.Need-returns
-returns c = c .executed .ensures ∙ priced-is _ _ (c .before .before .before .before .before .pre .value) (c .before .before .is-value .ensures) (c .before .before .before .priced .ensures) (c .before .priced2 .ensures)
+returns c seen o q p = c .executed .ensures ∙ priced-is _ seen (c .before .before .before .before .before .pre .value) (c .before .before .is-value .ensures) o q p (c .before .before .before .priced .ensures) (c .before .priced2 .ensures)
 
 pub priced-spec : {M : Type 1} → statement M
 priced-spec =

@@ -7,7 +7,7 @@ use Rattle.book.proofs.deciding.session.Statement.{statement}
 use Rattle.book.proofs.deciding.session.Tie as tie
 
 returns : tie.Need-returns
-returns c = c .kept .ensures ∙ session-is _ _ (c .before .before .trading-session .ensures) (c .before .trading-session2 .ensures)
+returns c seen = c .kept .ensures ∙ session-is _ seen (c .before .before .trading-session .ensures) (c .before .trading-session2 .ensures)
 
 pub session-spec : {M : Type 1} → statement M
 session-spec =

@@ -7,7 +7,7 @@ use Rattle.book.proofs.deciding.top.Statement.{statement}
 use Rattle.book.proofs.deciding.top.Tie as tie
 
 returns : tie.Need-returns
-returns c = c .shown .ensures ∙ top-is _ _ (c .before .before .before .top .ensures) (c .before .top2 .ensures)
+returns c seen i h = c .shown .ensures ∙ top-is _ seen i h (c .before .before .before .top .ensures) (c .before .top2 .ensures)
 
 pub top-spec : {M : Type 1} → statement M
 top-spec =

@@ -7,7 +7,7 @@ use Rattle.book.proofs.deciding.trade.Statement.{statement}
 use Rattle.book.proofs.deciding.trade.Tie as tie
 
 returns : tie.Need-returns
-returns c = c .kept .ensures ∙ trade-is _ _ (c .before .before .before .trade .ensures) (c .before .trade2 .ensures)
+returns c seen = c .kept .ensures ∙ trade-is _ seen (c .before .before .before .trade .ensures) (c .before .trade2 .ensures)
 
 pub trade-spec : {M : Type 1} → statement M
 trade-spec =

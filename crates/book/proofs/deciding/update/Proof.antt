@@ -7,7 +7,7 @@ use Rattle.book.proofs.deciding.update.Statement.{statement}
 use Rattle.book.proofs.deciding.update.Tie as tie
 
 returns : tie.Need-returns
-returns c = c .updated .ensures ∙ update-is _ _ (c .before .before .before .before .before .pre .value) (c .before .before .is-value .ensures) (c .before .before .before .update .ensures) (c .before .update2 .ensures)
+returns c seen o = c .updated .ensures ∙ update-is _ seen (c .before .before .before .before .before .pre .value) (c .before .before .is-value .ensures) o (c .before .before .before .update .ensures) (c .before .update2 .ensures)
 
 pub update-spec : {M : Type 1} → statement M
 update-spec =

@@ -11,14 +11,14 @@ returns : tie.Need-returns
 unfolding insideOf fieldsOf messageOf layoutOf
 returns c =
     λ i. record {
-      ask = c .before .top .ensures i .ask;
-      bid = c .before .top .ensures i .bid;
-      time = c .before .top .ensures i .time;
-      askvolume = c .before .top .ensures i .askvolume;
-      bidvolume = c .before .top .ensures i .bidvolume;
-      symbol = c .before .top .ensures i .symbol;
-      unsolicited = c .before .top .ensures i .unsolicited;
+      ask = c .before .before .before .before .top .ensures i .ask;
+      bid = c .before .before .before .before .top .ensures i .bid;
+      time = c .before .before .before .before .top .ensures i .time;
+      askvolume = c .before .before .before .before .top .ensures i .askvolume;
+      bidvolume = c .before .before .before .before .top .ensures i .bidvolume;
+      symbol = c .before .before .before .before .top .ensures i .symbol;
+      unsolicited = c .before .before .before .before .top .ensures i .unsolicited;
     }
 
 pub inside-of-spec : {M : Type 1} → statement M
-inside-of-spec = tie.close (tie.spec (λ c κs. search needs) returns)
+inside-of-spec = tie.close (tie.spec (λ c κs. search needs) (λ c. search needs) (λ c. search needs) (λ c. search needs) returns)

@@ -1,16 +1,16 @@
 -- `examples::made::filled` keeps the session's rule, which each message taken gives.
 -- Assumes nothing.
-use borrow.Author.Needs.{needs}
 use Prim.Native.Nat.{_-_}
-use Rattle.session.specs.Meaning.{Ruled}
+use Rattle.session.specs.Meaning.{held, Ruled}
+use borrow.Author.Needs.{needs}
 use Rattle.examples.proofs.made.filled.Statement.{statement}
 use Rattle.examples.proofs.made.filled.Tie as tie
 
 abbrev Inv-loop : tie.InvT-loop
-Inv-loop kind count session₀ k₀ session k = Ruled session
+Inv-loop room₀ window₀ kind count session₀ k₀ room window session k = Ruled (held session room window)
 
 abbrev μ-loop : tie.MeasureT-loop
-μ-loop kind count session₀ k₀ session k = count - k
+μ-loop room₀ window₀ kind count session₀ k₀ room window session k = count - k
 
 pub filled-spec : {M : Type 1} → statement M
 filled-spec =
@@ -19,7 +19,7 @@ filled-spec =
     Inv-loop
     μ-loop
     (λ c κs. search needs)
-    (λ c. c .open .ensures .1)
+    (λ c. search needs)
     (λ c. search needs)
     (λ c. search needs)
     (λ c κs. search needs)

@@ -8,11 +8,11 @@ use Rattle.replay.proofs.asking.ask.Statement.{statement}
 use Rattle.replay.proofs.asking.ask.Tie as tie
 
 abbrev Inv-loop : tie.InvT-loop
-Inv-loop session texts replies₀ most asked₀ at₀ replies asked at =
+Inv-loop session room texts replies₀ most asked₀ at₀ replies asked at =
     (asked ≤ most) × (at ≤ length texts) × (8 * most ≤ length replies) × (length replies ≡ length replies₀)
 
 abbrev μ-loop : tie.MeasureT-loop
-μ-loop session texts replies₀ most asked₀ at₀ replies asked at = most - asked
+μ-loop session room texts replies₀ most asked₀ at₀ replies asked at = most - asked
 
 pub ask-spec : {M : Type 1} → statement M
 ask-spec =

@@ -1,16 +1,15 @@
--- `replay::digest::insides` stays below the modulus and within the table.
+-- `replay::digest::insides` stays below the modulus and within the room.
 -- Assumes nothing.
 use Prim.Native.Nat.{_≤_, _<_}
-use native.Mathlib.Omega.{arith}
 use borrow.Author.Needs.{needs}
 use Rattle.replay.proofs.digest.insides.Statement.{statement}
 use Rattle.replay.proofs.digest.insides.Tie as tie
 
 abbrev Inv-loop : tie.InvT-loop
-Inv-loop book sum₀ k₀ sum k = (k ≤ book .held) × (sum < 4294967291)
+Inv-loop room held sum₀ k₀ sum k = (k ≤ held) × (sum < 4294967291)
 
 abbrev μ-loop : tie.MeasureT-loop
-μ-loop book sum₀ k₀ sum k = k
+μ-loop room held sum₀ k₀ sum k = k
 
 pub insides-spec : {M : Type 1} → statement M
 insides-spec =
@@ -20,8 +19,6 @@ insides-spec =
     μ-loop
     (λ c. search needs)
     (λ c. search needs)
-    (λ c. omega (arith, c .before .before .pre .held))
-    (λ c. omega (arith, c .before .before .pre .held, c .before .before .pre .insides))
     (λ c κs. search needs)
     (λ c. search needs)
     (λ c. search needs)

@@ -1,9 +1,7 @@
 -- `replay::replay_burst` meets its contract: the session keeps its rule, so its tables have their sizes.
 -- Assumes nothing.
-use mathlib.Core.Path.{sym, subst}
 use borrow.Author.Needs.{needs}
-use Rattle.book.specs.Rule.{Kept}
-use Rattle.session.proofs.Calls.{book-kept}
+use Rattle.replay.proofs.Tables.{tabled}
 use Rattle.replay.proofs.whole.replay_burst.Statement.{statement}
 use Rattle.replay.proofs.whole.replay_burst.Tie as tie
 
@@ -12,20 +10,6 @@ replay-burst-spec =
     tie.close
     (tie.spec
     (λ c κs. search needs)
-    (λ c κs. search needs)
-    (λ c. search needs)
-    (λ c. search needs)
-    (λ c. search needs)
-    (λ c. search needs)
-    (λ c. search needs)
-    (λ c. search needs)
-    (λ c. search needs)
-    (λ c. search needs)
-    (λ c. search needs)
-    (λ c. search needs)
-    (λ c κs. subst Kept (sym (c .before .before .before .book-of .ensures)) (book-kept (c .before .before .before .before .before .before .before .run .ensures .0)))
-    (λ c. search needs)
-    (λ c κs. subst Kept (sym (c .before .before .before .before .book-of .ensures)) (book-kept (c .before .before .before .before .before .before .before .before .run .ensures .0)))
-    (λ c. search needs)
+    (λ c κs. tabled (c .before .before .before .before .run .ensures .0))
     (λ c. search needs)
     (λ c. search needs))

@@ -1,20 +1,14 @@
--- Handed on to the tables.
+-- Handed on, with the order table.
 -- Assumes nothing.
-use mathlib.Core.Path.{ap, sym, subst, _∙_}
-use Rattle.book.specs.Asking.{bestAsked}
-use Rattle.book.specs.Rule.{Kept}
-use Rattle.book.specs.Tables.{view}
-use Rattle.book.specs.declared.tables.Book.{Book}
-use Rattle.session.proofs.Calls.{book-kept}
+use Rattle.session.proofs.Answers.{live-few, orders-long}
 use borrow.Author.Needs.{needs}
 use Rattle.session.proofs.asking.best.Statement.{statement}
 use Rattle.session.proofs.asking.best.Tie as tie
 
-best-requires : tie.Need-best-requires
-best-requires c κs = subst Kept (sym (c .book-of .ensures)) (book-kept (c .before .pre))
-
-returns : tie.Need-returns
-returns c = c .best .ensures ∙ ap (λ (b : Book). bestAsked (view b) (c .before .before .args .symbol) (c .before .before .args .side)) (c .before .book-of .ensures)
-
 pub best-spec : {M : Type 1} → statement M
-best-spec = tie.close (tie.spec (λ c κs. search needs) best-requires returns)
+best-spec =
+    tie.close
+    (tie.spec
+    (λ c. search needs)
+    (λ c κs. (live-few (c .before .before .pre .1), orders-long (c .before .before .pre .1)))
+    (λ c. c .best .ensures))

@@ -1,40 +1,47 @@
 -- The engine: each turn of the loop is one step of the definition.
 -- Assumes nothing.
 mod Points
-use mathlib.Core.Path.{_≡_, refl, ap, _∙_, sym, subst}
+use mathlib.Core.Path.{_≡_, refl, ap, ap₂, _∙_, sym, subst}
+use mathlib.Core.Bool.{true}
 use mathlib.Core.List.{List}
-use Prim.Native.Nat.{ℕ, _+_, _-_, _*_, _≤_}
+use mathlib.Core.Logic.{_⊎_, inl, inr, ⊎-elim}
+use Prim.Native.Nat.{ℕ, _+_, _-_, _*_, _≤_, _<_}
 use native.Mathlib.Nat.{mod-lt}
 use native.Mathlib.Omega.{arith}
-use lib.ListN.{length, length-replicate, take}
+use lib.ListN.{length, length-replicate, getD, set, take}
 use Rattle.merge.specs.State.{takeAll}
 use Rattle.wire.specs.Number.{Bytes, splice}
-use Rattle.book_index.specs.Chains.{Indexed}
-use Rattle.book_index.specs.Pairs.{Paired}
 use Rattle.message.specs.Whole.{Whole}
-use Rattle.book.specs.Applying.{applyOf, effectOf, messageIn, topicOf}
-use Rattle.book.specs.Lookup.{backOf, frontOf}
-use Rattle.book.specs.Tables.{rep, view as tables}
-use Rattle.book.specs.declared.tables.Book.{Book}
-use Rattle.book.specs.Rule.{Kept}
-use Rattle.book.specs.declared.deciding.Seen.{Seen}
-use Rattle.book.proofs.Steps.{Decided, seen-is, found-within, put-few, put-naming, put-done, replace-within, replace-done, remove-within, remove-done, renew-room, renew-within, renew-done, enter-room, enter-few, enter-done, record-done, unchanged-done, fault-done}
-use Rattle.session.specs.Meaning.{bookIn, overnight, view}
+use Rattle.message.specs.Layouts.{typeIn}
+use Rattle.book.specs.Applying.{Naming, names}
+use Rattle.book.specs.Lookup.{placeFound}
+use Rattle.book.specs.Tables.{Book, blank, noOrder}
+use Rattle.book.specs.declared.lookup.Found.{Found}
+use Rattle.book.specs.declared.tables.Order.{Order}
+use Rattle.book.proofs.Carrying.{restored, restored-is}
+use Rattle.book.proofs.Steps.{found-within}
+use Rattle.book_room.specs.Arms.{Added, Changed, Known, Told, after, namedIn, ordersChanged, ordersPut}
+use Rattle.book_room.specs.Room.{Houses, Lies, roomOf}
+use Rattle.book_room.specs.declared.adding.Put.{Put}
+use Rattle.book_room.specs.declared.changing.Act.{Act}
+use Rattle.book_room.specs.declared.changing.Name.{Name}
+use Rattle.session.specs.Meaning.{endIn, held, nextIn, overnight, view}
 use Rattle.window_taking.specs.Turns.{packetsOf}
 use Rattle.session.specs.Bursts.{rowsOf}
 use Rattle.window_taking.specs.declared.burst.Turn.{Turn}
-use Rattle.session.proofs.Runs.{Going, Here, apart, applied, begins, bytes-of, closes, distinct, ends, follows, goes, here, holds, keeps, known, less-turn, more, put-asks, put-keeps, remove-asks, remove-keeps, same-length, symbol-asks, symbol-keeps, starts}
+use Rattle.session.proofs.Dispatch.{naming-kind, of-kind, telling-kind}
+use Rattle.session.proofs.Runs.{Going, Here, Open, applied, begins, bytes-of, closes, ends, follows, goes, here, holds, houses, known, less-turn, more, orders-long, same-length, starts, tabled}
 use borrow.Author.Needs.{needs}
 use Rattle.session.proofs.running.run.Proof.Points as to
 use Rattle.session.proofs.running.run.Statement.{statement}
 use Rattle.session.proofs.running.run.Tie as tie
 
 abbrev Inv-loop : tie.InvT-loop
-Inv-loop packets single count answers₀ session₀ digits next₀ turn₀ source₀ text₀ answers session next turn source text =
-    Going (takeAll overnight (view session₀) (take count (packetsOf single packets))) (splice answers₀ 0 (rowsOf (view session₀) (take count (packetsOf single packets)))) packets single answers₀ answers (bookIn session) (session .index) (session .symbols) (session .window) next turn source text
+Inv-loop room₀ window₀ packets single count answers₀ session₀ digits next₀ turn₀ source₀ text₀ room window answers session next turn source text =
+    Going (takeAll overnight (view (held session₀ room₀ window₀)) (take count (packetsOf single packets))) (splice answers₀ 0 (rowsOf (view (held session₀ room₀ window₀)) (take count (packetsOf single packets)))) packets single answers₀ answers (nextIn room₀) (endIn room₀) (session .orders) room window next turn source text
 
 abbrev μ-loop : tie.MeasureT-loop
-μ-loop packets single count answers₀ session₀ digits next₀ turn₀ source₀ text₀ answers session next turn source text = turn .left * 257 + (turn .before + 256 - next)
+μ-loop room₀ window₀ packets single count answers₀ session₀ digits next₀ turn₀ source₀ text₀ room window answers session next turn source text = turn .left * 257 + (turn .before + 256 - next)
 
 packet-bytes : (c : tie.After-shared-slice-known Inv-loop μ-loop) → Bytes (to.entry-from-shared-slice-known c .args .packets .now)
 packet-bytes c = bytes-of (to.entry-from-shared-slice-known c .args .packets .now) (λ i. omega (arith, c .shared-slice-known .given i))
@@ -65,60 +72,153 @@ loop-again c =
       same = same-length (to.loop-from-follow c .loop .inv .now) (to.size-from-follow c .size .ensures) (to.then1-from-follow c .if1 .taken) (to.close-from-follow c .close .ensures) ∙ to.loop-from-follow c .loop .inv .same;
     }
 
-at : (c : tie.After-fetch Inv-loop μ-loop) → Here (to.entry-from-fetch c .args .packets .now) (to.loop-from-fetch c .loop .source) (to.size-from-fetch c .size .result) (c .fetch .last .0) (to.loop-from-fetch c .loop .next) (to.loop-from-fetch c .loop .turn .before) (to.loop-from-fetch c .loop .session .faults .count)
+at : (c : tie.After-fetch Inv-loop μ-loop) → Here (to.entry-from-fetch c .args .packets .now) (to.loop-from-fetch c .loop .source) (to.size-from-fetch c .size .result) (c .fetch .last .0) (to.loop-from-fetch c .loop .next) (to.loop-from-fetch c .loop .turn .before)
 at c = here (to.loop-from-fetch c .loop .inv .now) (to.size-from-fetch c .size .ensures) (to.else1-from-fetch c .if1 .left) (to.loop-from-fetch c .loop .text) (to.loop-from-fetch c .loop .inv .wide) (c .fetch .ensures)
 
--- the message's bytes
-whole-from : (c : tie.After-message Inv-loop μ-loop) → Whole (c .message .result .now)
+-- ---- a message at hand
+
+abbrev bytes : (c : tie.After-message Inv-loop μ-loop) → List ℕ
+bytes c = c .message .result .now
+
+abbrev number : (c : tie.After-message Inv-loop μ-loop) → ℕ
+number c = to.loop-from-message c .loop .next
+
+abbrev first : (c : tie.After-message Inv-loop μ-loop) → ℕ
+first c = nextIn (to.entry-from-message c .args .room .now)
+
+abbrev last : (c : tie.After-message Inv-loop μ-loop) → ℕ
+last c = endIn (to.entry-from-message c .args .room .now)
+
+-- the tables before it
+abbrev book : (c : tie.After-message Inv-loop μ-loop) → Book
+book c = tabled (to.loop-from-message c .loop .inv .now)
+
+whole-from : (c : tie.After-message Inv-loop μ-loop) → Whole (bytes c)
 whole-from c = subst Whole (sym (c .message .ensures)) (at (to.fetch-from-message c) .whole)
 
-abbrev bytes : (c : tie.After-decide Inv-loop μ-loop) → List ℕ
-bytes c = to.message-from-decide c .message .result .now
+housed : (c : tie.After-message Inv-loop μ-loop) → Houses (to.loop-from-message c .loop .room) (first c) (last c) (book c) (number c) (bytes c)
+housed c =
+    subst (Houses (to.loop-from-message c .loop .room) (first c) (last c) (book c) (number c)) (sym (c .message .ensures))
+    (houses (to.loop-from-message c .loop .inv .now) (to.size-from-message c .size .ensures) (to.else1-from-message c .if1 .left) (to.loop-from-message c .loop .text) (to.loop-from-message c .loop .inv .wide) (to.fetch-from-message c .fetch .ensures))
 
-kept-here : (c : tie.After-decide Inv-loop μ-loop) → Kept (bookIn (to.loop-from-decide c .loop .session))
-kept-here c = keeps (to.loop-from-decide c .loop .inv .now)
+lying : (c : tie.After-message Inv-loop μ-loop) → Lies (to.loop-from-message c .loop .room) (first c) (last c) (book c)
+lying c = record { kept = housed c .ready .kept; is = housed c .is }
 
-decided : (c : tie.After-decide Inv-loop μ-loop) → Decided (bookIn (to.loop-from-decide c .loop .session)) (bytes c) (to.key-of-from-decide c .key-of .result) (topicOf (messageIn (bytes c))) (c .decide .result)
-decided c =
+-- the message is applied, whatever its arm
+moves : (c : tie.After-message Inv-loop μ-loop) {os : List Order} {numbers : List ℕ} → os ≡ after (book c) (number c) (bytes c) .orders → numbers ≡ roomOf (first c) (last c) (after (book c) (number c) (bytes c))
+    → Going (takeAll overnight (view (held (to.entry-from-message c .args .t1) (to.entry-from-message c .args .room .now) (to.entry-from-message c .args .window .now))) (take (to.entry-from-message c .args .count) (packetsOf (to.entry-from-message c .args .single) (to.entry-from-message c .args .packets .now)))) (splice (to.entry-from-message c .args .answers .now) 0 (rowsOf (view (held (to.entry-from-message c .args .t1) (to.entry-from-message c .args .room .now) (to.entry-from-message c .args .window .now))) (take (to.entry-from-message c .args .count) (packetsOf (to.entry-from-message c .args .single) (to.entry-from-message c .args .packets .now))))) (to.entry-from-message c .args .packets .now) (to.entry-from-message c .args .single) (to.entry-from-message c .args .answers .now) (to.loop-from-message c .loop .answers) (first c) (last c) os numbers (to.free-from-message c .free .last .0) (number c + 1) (to.loop-from-message c .loop .turn) (to.onward-from-message c .onward .result) (to.fetch-from-message c .fetch .last .0)
+moves c orders room =
     record {
-      kept = kept-here c;
-      whole = whole-from (to.message-from-decide c);
-      value = to.key-of-from-decide c .key-of .ensures;
-      about = refl;
-      effect =
-          c .decide .ensures
-          ∙ ap (λ (x : Seen). effectOf x (messageIn (bytes c)))
-          (to.seen-with-from-decide c .seen-with .ensures ∙ seen-is (bookIn (to.loop-from-decide c .loop .session)) (bytes c) (kept-here c) (to.key-of-from-decide c .key-of .ensures) refl (to.found-from-decide c .found .ensures) (to.told-from-decide c .told .ensures) (to.place-found-from-decide c .place-found .ensures));
+      now =
+          applied (to.loop-from-message c .loop .inv .now) (to.size-from-message c .size .ensures) (to.else1-from-message c .if1 .left) (to.loop-from-message c .loop .text) (to.loop-from-message c .loop .inv .wide) (to.fetch-from-message c .fetch .ensures)
+          (orders ∙ ap (λ (l : List ℕ). after (book c) (number c) l .orders) (c .message .ensures))
+          (room ∙ ap (λ (l : List ℕ). roomOf (first c) (last c) (after (book c) (number c) l)) (c .message .ensures))
+          (to.free-from-message c .free .ensures)
+          (to.onward-from-message c .onward .ensures);
+      wide = at (to.fetch-from-message c) .wide;
+      same = to.loop-from-message c .loop .inv .same;
     }
 
--- the message is applied, whatever its effect
-moves : (c : tie.After-decide Inv-loop μ-loop) {b : Book} {index symbols : List ℕ} → b ≡ rep (applyOf (tables (bookIn (to.loop-from-decide c .loop .session))) (to.loop-from-decide c .loop .next) (bytes c)) → Indexed index (b .keys) (b .live) → Paired symbols (b .fronts) (b .backs) (b .held)
-    → Going (takeAll overnight (view (to.entry-from-decide c .args .t1)) (take (to.entry-from-decide c .args .count) (packetsOf (to.entry-from-decide c .args .single) (to.entry-from-decide c .args .packets .now)))) (splice (to.entry-from-decide c .args .answers .now) 0 (rowsOf (view (to.entry-from-decide c .args .t1)) (take (to.entry-from-decide c .args .count) (packetsOf (to.entry-from-decide c .args .single) (to.entry-from-decide c .args .packets .now))))) (to.entry-from-decide c .args .packets .now) (to.entry-from-decide c .args .single) (to.entry-from-decide c .args .answers .now) (to.loop-from-decide c .loop .answers) b index symbols (to.free-from-decide c .free .last .0) (to.loop-from-decide c .loop .next + 1) (to.loop-from-decide c .loop .turn) (to.onward-from-decide c .onward .result) (to.fetch-from-decide c .fetch .last .0)
-moves c books indexed held-at = record { now = applied (to.loop-from-decide c .loop .inv .now) (to.size-from-decide c .size .ensures) (to.else1-from-decide c .if1 .left) (to.loop-from-decide c .loop .text) (to.loop-from-decide c .loop .inv .wide) (to.fetch-from-decide c .fetch .ensures) (books ∙ ap (λ (l : List ℕ). rep (applyOf (tables (bookIn (to.loop-from-decide c .loop .session))) (to.loop-from-decide c .loop .next) l)) (to.message-from-decide c .message .ensures)) indexed held-at (to.free-from-decide c .free .ensures) (to.onward-from-decide c .onward .ensures); wide = at (to.fetch-from-decide c) .wide; same = to.loop-from-decide c .loop .inv .same }
+abbrev orders : (c : tie.After-message Inv-loop μ-loop) → List Order
+orders c = to.loop-from-message c .loop .session .orders
+
+ordered : (c : tie.After-message Inv-loop μ-loop) → orders c ≡ book c .orders
+ordered c = to.loop-from-message c .loop .inv .now .orders
+
+many : (c : tie.After-message Inv-loop μ-loop) → length (orders c) ≡ 256
+many c = orders-long (to.loop-from-message c .loop .inv .now)
+
+fewer : (c : tie.After-fetch Inv-loop μ-loop) → to.loop-from-fetch c .loop .turn .before + 256 - (to.loop-from-fetch c .loop .next + 1) < to.loop-from-fetch c .loop .turn .before + 256 - to.loop-from-fetch c .loop .next
+fewer c = at c .fewer
+
+-- ---- an Add
+
+added : (c : tie.After-add Inv-loop μ-loop) → Added (c .add .last .0) (first (to.message-from-add c)) (last (to.message-from-add c)) (book (to.message-from-add c)) (number (to.message-from-add c)) (bytes (to.message-from-add c)) (c .add .result)
+added c = c .add .ensures (first (to.message-from-add c)) (last (to.message-from-add c)) (book (to.message-from-add c)) (housed (to.message-from-add c))
+
+-- where it goes
+fits : (c : tie.After-known-told Inv-loop μ-loop) → (to.place-from-known-told c .place .given .0 .0 < 256) × Naming 55 (bytes (to.message-from-known-told c)) (to.place-from-known-told c .place .given .0 .1 .0)
+fits c = added (to.add-from-known-told c) .fits _ _ (to.place-from-known-told c .place .given .1)
 
 loop-again-2 : tie.Need-loop-again-2 Inv-loop μ-loop
-loop-again-2 c = moves (to.decide-from-put c) (put-done (decided (to.decide-from-put c)) (to.enum-told-from-put c .enum-told .given .1) (to.loop-from-decide (to.decide-from-put c) .loop .next) (to.order-of-from-put c .order-of .ensures)) (put-keeps ((to.loop-from-decide (to.decide-from-put c) .loop .inv .now) .indexed) (to.key-of-from-decide (to.decide-from-put c) .key-of .result) (put-few (decided (to.decide-from-put c)) (to.enum-told-from-put c .enum-told .given .1)) (c .put .ensures)) ((to.loop-from-decide (to.decide-from-put c) .loop .inv .now) .held-at)
+loop-again-2 c =
+    moves (to.message-from-order-of c)
+    (ap₂ (λ (l : List Order) (o : Order). set l (to.place-from-order-of c .place .given .0 .0) o) (ordered (to.message-from-order-of c)) (c .order-of .ensures)
+    ∙ sym (added (to.add-from-order-of c) .orders ∙ ap (λ (p : Put). ordersPut p (bytes (to.message-from-order-of c)) (book (to.message-from-order-of c) .orders)) (to.place-from-order-of c .place .given .1)))
+    (added (to.add-from-order-of c) .is)
 
 loop-again-3 : tie.Need-loop-again-3 Inv-loop μ-loop
-loop-again-3 c = moves (to.decide-from-session6 c) (replace-done (decided (to.decide-from-session6 c)) (to.loop-from-decide (to.decide-from-session6 c) .loop .next) (to.place-from-session6 c .place .given .1)) ((to.loop-from-decide (to.decide-from-session6 c) .loop .inv .now) .indexed) ((to.loop-from-decide (to.decide-from-session6 c) .loop .inv .now) .held-at)
+loop-again-3 c =
+    moves (to.message-from-enum-told c)
+    (ordered (to.message-from-enum-told c) ∙ sym (added (to.add-from-enum-told c) .orders ∙ ap (λ (p : Put). ordersPut p (bytes (to.message-from-enum-told c)) (book (to.message-from-enum-told c) .orders)) (c .enum-told .given .1)))
+    (added (to.add-from-enum-told c) .is)
+
+-- ---- a message that names an order
+
+names-one : (c : tie.Then4 Inv-loop μ-loop) → names (typeIn (bytes (to.message-from-then4 c))) ≡ true
+names-one c = naming-kind (bytes (to.message-from-then4 c)) (to.u8-at-from-then4 c .u8-at .ensures) (to.match-rest-from-then4 c .match .rest .1) (to.else3-from-then4 c .if3 .left) (c .if4 .taken)
+
+told-name : (c : tie.After-named Inv-loop μ-loop) → c .named .result ≡ namedIn (book (to.message-from-named c)) (bytes (to.message-from-named c))
+told-name c = c .named .ensures (first (to.message-from-named c)) (last (to.message-from-named c)) (book (to.message-from-named c)) (lying (to.message-from-named c))
+
+spot : (c : tie.After-place-found Inv-loop μ-loop) → c .place-found .result ≡ placeFound (namedIn (book (to.message-from-place-found c)) (bytes (to.message-from-place-found c)) .order)
+spot c = c .place-found .ensures ∙ ap (λ (n : Name). placeFound (n .order)) (told-name (to.named-from-place-found c))
+
+within : (c : tie.After-place-found Inv-loop μ-loop) → c .place-found .result < 256
+within c =
+    found-within (book (to.message-from-place-found c) .keys) (book (to.message-from-place-found c) .live) (namedIn (book (to.message-from-place-found c)) (bytes (to.message-from-place-found c)) .key)
+    (lying (to.message-from-place-found c) .kept .live) refl (spot c)
+
+asks : (c : tie.After-change-arg Inv-loop μ-loop) → Known (to.loop-from-change-arg c .loop .room) (first (to.message-from-change-arg c)) (last (to.message-from-change-arg c)) (book (to.message-from-change-arg c)) (number (to.message-from-change-arg c)) (bytes (to.message-from-change-arg c)) (to.named-from-change-arg c .named .result)
+    (getD (orders (to.message-from-change-arg c)) (to.place-found-from-change-arg c .place-found .result) blank .shares) (getD (orders (to.message-from-change-arg c)) (to.place-found-from-change-arg c .place-found .result) blank .price)
+asks c =
+    record {
+      houses = housed (to.message-from-change-arg c);
+      named = told-name (to.named-from-change-arg c);
+      shares = ap₂ (λ (l : List Order) (k : ℕ). getD l k blank .shares) (ordered (to.message-from-change-arg c)) (spot (to.place-found-from-change-arg c));
+      price = ap₂ (λ (l : List Order) (k : ℕ). getD l k blank .price) (ordered (to.message-from-change-arg c)) (spot (to.place-found-from-change-arg c));
+    }
+
+changed : (c : tie.After-change Inv-loop μ-loop) → Changed (c .change .last .0) (first (to.message-from-change c)) (last (to.message-from-change c)) (book (to.message-from-change c)) (number (to.message-from-change c)) (bytes (to.message-from-change c)) (c .change .result)
+changed c = c .change .ensures (first (to.message-from-change c)) (last (to.message-from-change c)) (book (to.message-from-change c)) (asks (to.change-arg-from-change c))
+
+acted : (c : tie.After-change Inv-loop μ-loop) {r : Act} → c .change .result ≡ r → ordersChanged r (book (to.message-from-change c) .orders) ≡ after (book (to.message-from-change c)) (number (to.message-from-change c)) (bytes (to.message-from-change c)) .orders
+acted c e = sym (changed c .orders ∙ ap (λ (a : Act). ordersChanged a (book (to.message-from-change c) .orders)) e)
+
+replaced : (c : tie.After-known-told2 Inv-loop μ-loop) → to.place2-from-known-told2 c .place2 .given .0 .0 < 256
+replaced c = changed (to.change-from-known-told2 c) .replaces _ _ _ (to.place2-from-known-told2 c .place2 .given .1)
+
+removed : (c : tie.After-known-told3 Inv-loop μ-loop) → (to.place3-from-known-told3 c .place3 .given .0 .0 < 256) × (to.place3-from-known-told3 c .place3 .given .0 .1 .0 < 256)
+removed c = changed (to.change-from-known-told3 c) .removes _ _ (to.place3-from-known-told3 c .place3 .given .1)
 
 loop-again-4 : tie.Need-loop-again-4 Inv-loop μ-loop
-loop-again-4 c = moves (to.decide-from-remove c) (remove-done (decided (to.decide-from-remove c)) (to.loop-from-decide (to.decide-from-remove c) .loop .next) (to.place2-from-remove c .place2 .given .1) (to.no-order-from-remove c .no-order .ensures)) (remove-keeps ((to.loop-from-decide (to.decide-from-remove c) .loop .inv .now) .indexed) (remove-within (decided (to.decide-from-remove c)) (to.place2-from-remove c .place2 .given .1)) (c .remove .ensures)) ((to.loop-from-decide (to.decide-from-remove c) .loop .inv .now) .held-at)
+loop-again-4 c =
+    moves (to.message-from-session2 c)
+    (restored-is (orders (to.message-from-session2 c)) (to.place2-from-session2 c .place2 .given .0 .0) (to.place2-from-session2 c .place2 .given .0 .1 .0) (to.place2-from-session2 c .place2 .given .0 .1 .1 .0) (omega (arith, replaced (to.known-told2-from-session2 c), many (to.message-from-session2 c)))
+    ∙ ap (ordersChanged (Act.Replace _ _ _)) (ordered (to.message-from-session2 c))
+    ∙ acted (to.change-from-session2 c) (to.place2-from-session2 c .place2 .given .1))
+    (changed (to.change-from-session2 c) .is)
 
 loop-again-5 : tie.Need-loop-again-5 Inv-loop μ-loop
-loop-again-5 c = moves (to.decide-from-inside-of c) (renew-done (decided (to.decide-from-inside-of c)) (to.loop-from-decide (to.decide-from-inside-of c) .loop .next) (to.place3-from-inside-of c .place3 .given .1) (c .inside-of .ensures)) ((to.loop-from-decide (to.decide-from-inside-of c) .loop .inv .now) .indexed) ((to.loop-from-decide (to.decide-from-inside-of c) .loop .inv .now) .held-at)
+loop-again-5 c =
+    moves (to.message-from-no-order c)
+    (ap₂ (λ (l : List Order) (o : Order). set (set l (to.place3-from-no-order c .place3 .given .0 .0) (getD l (to.place3-from-no-order c .place3 .given .0 .1 .0) blank)) (to.place3-from-no-order c .place3 .given .0 .1 .0) o) (ordered (to.message-from-no-order c)) (c .no-order .ensures)
+    ∙ acted (to.change-from-no-order c) (to.place3-from-no-order c .place3 .given .1))
+    (changed (to.change-from-no-order c) .is)
 
 loop-again-6 : tie.Need-loop-again-6 Inv-loop μ-loop
-loop-again-6 c = moves (to.decide-from-put2 c) (enter-done (decided (to.decide-from-put2 c)) (to.loop-from-decide (to.decide-from-put2 c) .loop .next) (to.enum-told2-from-put2 c .enum-told2 .given .1) (to.inside-of2-from-put2 c .inside-of2 .ensures) (to.front-from-put2 c .front .ensures ∙ ap frontOf (to.topic-of-from-put2 c .topic-of .ensures)) (to.back-from-put2 c .back .ensures ∙ ap backOf (to.topic-of-from-put2 c .topic-of .ensures))) ((to.loop-from-decide (to.decide-from-put2 c) .loop .inv .now) .indexed) (symbol-keeps ((to.loop-from-decide (to.decide-from-put2 c) .loop .inv .now) .held-at) (to.front-from-put2 c .front .result) (to.back-from-put2 c .back .result) (enter-few (decided (to.decide-from-put2 c)) (to.enum-told2-from-put2 c .enum-told2 .given .1)) (c .put2 .ensures))
+loop-again-6 c =
+    moves (to.message-from-enum-told2 c)
+    (ordered (to.message-from-enum-told2 c) ∙ acted (to.change-from-enum-told2 c) (c .enum-told2 .given .1))
+    (changed (to.change-from-enum-told2 c) .is)
+
+-- ---- any other
+
+told : (c : tie.After-tell Inv-loop μ-loop) → Told (c .tell .last .0) (first (to.message-from-tell c)) (last (to.message-from-tell c)) (book (to.message-from-tell c)) (number (to.message-from-tell c)) (bytes (to.message-from-tell c))
+told c = c .tell .ensures (first (to.message-from-tell c)) (last (to.message-from-tell c)) (book (to.message-from-tell c)) (housed (to.message-from-tell c))
 
 loop-again-7 : tie.Need-loop-again-7 Inv-loop μ-loop
-loop-again-7 c = moves (to.decide-from-known-told4 c) (record-done (decided (to.decide-from-known-told4 c)) (to.loop-from-decide (to.decide-from-known-told4 c) .loop .next) (to.code-from-known-told4 c .code .given .1)) ((to.loop-from-decide (to.decide-from-known-told4 c) .loop .inv .now) .indexed) ((to.loop-from-decide (to.decide-from-known-told4 c) .loop .inv .now) .held-at)
-
-loop-again-8 : tie.Need-loop-again-8 Inv-loop μ-loop
-loop-again-8 c = moves (to.decide-from-enum-told3 c) (unchanged-done (decided (to.decide-from-enum-told3 c)) (to.loop-from-decide (to.decide-from-enum-told3 c) .loop .next) (c .enum-told3 .given .1)) ((to.loop-from-decide (to.decide-from-enum-told3 c) .loop .inv .now) .indexed) ((to.loop-from-decide (to.decide-from-enum-told3 c) .loop .inv .now) .held-at)
-
-loop-again-9 : tie.Need-loop-again-9 Inv-loop μ-loop
-loop-again-9 c = moves (to.decide-from-recorded c) (fault-done (decided (to.decide-from-recorded c)) (to.loop-from-decide (to.decide-from-recorded c) .loop .next) (to.reason-from-recorded c .reason .given .1) (c .recorded .ensures)) ((to.loop-from-decide (to.decide-from-recorded c) .loop .inv .now) .indexed) ((to.loop-from-decide (to.decide-from-recorded c) .loop .inv .now) .held-at)
+loop-again-7 c = moves (to.message-from-tell c) (ordered (to.message-from-tell c) ∙ sym (told c .orders)) (told c .is)
 
 pub run-spec : {M : Type 1} → statement M
 run-spec =
@@ -127,10 +227,14 @@ run-spec =
     Inv-loop
     μ-loop
     (λ c κs. search needs)
+    (λ c. search needs)
+    (λ c. search needs)
     (λ c κs. search needs)
     loop-holds
     (λ c κs. (mod-lt (to.loop-from-size-arg c .loop .next) {m = 256} (omega arith), begins (to.loop-from-size-arg c .loop .inv .now)))
     (λ c κs. closes (to.loop-from-close-arg c .loop .inv .now))
+    (λ c. search needs)
+    (λ c. search needs)
     same-size
     returns
     follow-requires
@@ -142,79 +246,42 @@ run-spec =
     (λ c. sym (at (to.fetch-from-text2 c) .wide))
     (λ c κs. (at (to.fetch-from-text2 c) .cut, at (to.fetch-from-text2 c) .lies))
     (λ c. omega (arith, at (to.fetch-from-message c) .below))
-    (λ c κs. (to.table-from-digits c .table .ensures, whole-from (to.message-from-digits c)))
-    (λ c κs. ((to.loop-from-found-arg2 c .loop .inv .now) .indexed, distinct (to.loop-from-found-arg2 c .loop .inv .now)))
-    (λ c κs. (whole-from (to.message-from-told-arg3 c), ((to.loop-from-told-arg3 c .loop .inv .now) .held-at, apart (to.loop-from-told-arg3 c .loop .inv .now))))
-    (λ c κs. search needs)
-    (λ c. omega (arith, found-within _ _ _ (keeps (to.loop-from-place-found c .loop .inv .now) .live) (to.found-from-place-found c .found .ensures) (c .place-found .ensures)))
-    (λ c. omega (arith, found-within _ _ _ (keeps (to.loop-from-place-found c .loop .inv .now) .live) (to.found-from-place-found c .found .ensures) (c .place-found .ensures), keeps (to.loop-from-place-found c .loop .inv .now) .orders))
-    (λ c κs. search needs)
-    (λ c κs. record { whole = whole-from (to.message-from-seen-with c); value = to.key-of-from-seen-with c .key-of .ensures })
+    (λ c κs. omega (arith, whole-from c .least))
+    (λ c κs. ((to.table-from-digits c .table .ensures, of-kind (bytes (to.message-from-digits c)) (to.u8-at-from-digits c .u8-at .ensures) (to.match-keys1-from-digits c .match .keys1)), (first (to.message-from-digits c), last (to.message-from-digits c), book (to.message-from-digits c), housed (to.message-from-digits c))))
     (λ c. search needs)
-    (λ c κs. put-naming (decided (to.decide-from-enum-told c)) (c .enum-told .given .1))
-    (λ c. omega (arith, put-few (decided (to.decide-from-order-of c)) (to.enum-told-from-order-of c .enum-told .given .1), kept-here (to.decide-from-order-of c) .orders, kept-here (to.decide-from-order-of c) .keys))
-    (λ c. omega (arith, put-few (decided (to.decide-from-order-of c)) (to.enum-told-from-order-of c .enum-told .given .1), kept-here (to.decide-from-order-of c) .orders, kept-here (to.decide-from-order-of c) .keys))
-    (λ c. omega (arith, put-few (decided (to.decide-from-order-of c)) (to.enum-told-from-order-of c .enum-told .given .1), kept-here (to.decide-from-order-of c) .orders, kept-here (to.decide-from-order-of c) .keys))
-    (λ c. omega (arith, put-few (decided (to.decide-from-order-of c)) (to.enum-told-from-order-of c .enum-told .given .1), kept-here (to.decide-from-order-of c) .orders, kept-here (to.decide-from-order-of c) .keys))
-    (λ c. omega (arith, put-few (decided (to.decide-from-order-of c)) (to.enum-told-from-order-of c .enum-told .given .1), kept-here (to.decide-from-order-of c) .orders, kept-here (to.decide-from-order-of c) .keys))
-    (λ c κs. put-asks ((to.loop-from-decide (to.decide-from-put-arg c) .loop .inv .now) .indexed) (put-few (decided (to.decide-from-put-arg c)) (to.enum-told-from-put-arg c .enum-told .given .1)))
-    (λ c. omega (arith, at (to.fetch-from-decide (to.decide-from-put c)) .fewer))
+    (λ c κs. fits c .1)
+    (λ c. omega (arith, fits (to.known-told-from-order-of c) .0))
+    (λ c. omega (arith, fits (to.known-told-from-order-of c) .0, many (to.message-from-order-of c)))
+    (λ c. omega (arith, fewer (to.fetch-from-order-of c)))
     loop-again-2
     (λ c. search needs)
-    (λ c. omega (arith, replace-within (decided (to.decide-from-known-told c)) (to.place-from-known-told c .place .given .1), kept-here (to.decide-from-known-told c) .orders, kept-here (to.decide-from-known-told c) .live))
-    (λ c. omega (arith, replace-within (decided (to.decide-from-known-told c)) (to.place-from-known-told c .place .given .1), kept-here (to.decide-from-known-told c) .orders, kept-here (to.decide-from-known-told c) .live))
-    (λ c. omega (arith, replace-within (decided (to.decide-from-session5 c)) (to.place-from-session5 c .place .given .1), kept-here (to.decide-from-session5 c) .orders, kept-here (to.decide-from-session5 c) .live))
-    (λ c. omega (arith, replace-within (decided (to.decide-from-session5 c)) (to.place-from-session5 c .place .given .1), kept-here (to.decide-from-session5 c) .orders, kept-here (to.decide-from-session5 c) .live))
-    (λ c. omega (arith, at (to.fetch-from-decide (to.decide-from-session6 c)) .fewer))
+    (λ c. omega (arith, fewer (to.fetch-from-enum-told c)))
     loop-again-3
-    (λ c. search needs)
-    (λ c. omega (arith, remove-within (decided (to.decide-from-known-told2 c)) (to.place2-from-known-told2 c .place2 .given .1), kept-here (to.decide-from-known-told2 c) .orders, kept-here (to.decide-from-known-told2 c) .keys, kept-here (to.decide-from-known-told2 c) .live))
-    (λ c. omega (arith, remove-within (decided (to.decide-from-known-told2 c)) (to.place2-from-known-told2 c .place2 .given .1), kept-here (to.decide-from-known-told2 c) .orders, kept-here (to.decide-from-known-told2 c) .keys, kept-here (to.decide-from-known-told2 c) .live))
-    (λ c. omega (arith, remove-within (decided (to.decide-from-known-told2 c)) (to.place2-from-known-told2 c .place2 .given .1), kept-here (to.decide-from-known-told2 c) .orders, kept-here (to.decide-from-known-told2 c) .keys, kept-here (to.decide-from-known-told2 c) .live))
-    (λ c. omega (arith, remove-within (decided (to.decide-from-gone c)) (to.place2-from-gone c .place2 .given .1), kept-here (to.decide-from-gone c) .orders, kept-here (to.decide-from-gone c) .keys, kept-here (to.decide-from-gone c) .live))
-    (λ c. omega (arith, remove-within (decided (to.decide-from-gone c)) (to.place2-from-gone c .place2 .given .1), kept-here (to.decide-from-gone c) .orders, kept-here (to.decide-from-gone c) .keys, kept-here (to.decide-from-gone c) .live))
-    (λ c. omega (arith, remove-within (decided (to.decide-from-moved c)) (to.place2-from-moved c .place2 .given .1), kept-here (to.decide-from-moved c) .orders, kept-here (to.decide-from-moved c) .keys, kept-here (to.decide-from-moved c) .live))
-    (λ c. omega (arith, remove-within (decided (to.decide-from-moved c)) (to.place2-from-moved c .place2 .given .1), kept-here (to.decide-from-moved c) .orders, kept-here (to.decide-from-moved c) .keys, kept-here (to.decide-from-moved c) .live))
-    (λ c. omega (arith, remove-within (decided (to.decide-from-session7 c)) (to.place2-from-session7 c .place2 .given .1), kept-here (to.decide-from-session7 c) .orders, kept-here (to.decide-from-session7 c) .keys, kept-here (to.decide-from-session7 c) .live))
-    (λ c. omega (arith, remove-within (decided (to.decide-from-session7 c)) (to.place2-from-session7 c .place2 .given .1), kept-here (to.decide-from-session7 c) .orders, kept-here (to.decide-from-session7 c) .keys, kept-here (to.decide-from-session7 c) .live))
-    (λ c. omega (arith, remove-within (decided (to.decide-from-session7 c)) (to.place2-from-session7 c .place2 .given .1), kept-here (to.decide-from-session7 c) .orders, kept-here (to.decide-from-session7 c) .keys, kept-here (to.decide-from-session7 c) .live))
-    (λ c. omega (arith, remove-within (decided (to.decide-from-session7 c)) (to.place2-from-session7 c .place2 .given .1), kept-here (to.decide-from-session7 c) .orders, kept-here (to.decide-from-session7 c) .keys, kept-here (to.decide-from-session7 c) .live))
+    (λ c κs. ((to.table-from-digits2 c .table .ensures, names-one (to.then4-from-digits2 c)), ((first (to.message-from-digits2 c), last (to.message-from-digits2 c), book (to.message-from-digits2 c), lying (to.message-from-digits2 c)), whole-from (to.message-from-digits2 c))))
     (λ c κs. search needs)
-    (λ c. omega (arith, remove-within (decided (to.decide-from-no-order c)) (to.place2-from-no-order c .place2 .given .1), kept-here (to.decide-from-no-order c) .orders, kept-here (to.decide-from-no-order c) .keys, kept-here (to.decide-from-no-order c) .live))
-    (λ c. omega (arith, remove-within (decided (to.decide-from-no-order c)) (to.place2-from-no-order c .place2 .given .1), kept-here (to.decide-from-no-order c) .orders, kept-here (to.decide-from-no-order c) .keys, kept-here (to.decide-from-no-order c) .live))
-    (λ c. omega (arith, remove-within (decided (to.decide-from-no-order c)) (to.place2-from-no-order c .place2 .given .1), kept-here (to.decide-from-no-order c) .orders, kept-here (to.decide-from-no-order c) .keys, kept-here (to.decide-from-no-order c) .live))
-    (λ c. omega (arith, remove-within (decided (to.decide-from-no-order c)) (to.place2-from-no-order c .place2 .given .1), kept-here (to.decide-from-no-order c) .orders, kept-here (to.decide-from-no-order c) .keys, kept-here (to.decide-from-no-order c) .live))
-    (λ c κs. remove-asks ((to.loop-from-decide (to.decide-from-remove-arg c) .loop .inv .now) .indexed) (remove-within (decided (to.decide-from-remove-arg c)) (to.place2-from-remove-arg c .place2 .given .1)))
-    (λ c. omega (arith, at (to.fetch-from-decide (to.decide-from-remove c)) .fewer))
+    (λ c. omega (arith, within c))
+    (λ c. omega (arith, within c, many (to.message-from-place-found c)))
+    (λ c κs. (names-one (to.then4-from-change-arg c), (first (to.message-from-change-arg c), last (to.message-from-change-arg c), book (to.message-from-change-arg c), asks c)))
+    (λ c. search needs)
+    (λ c. omega (arith, replaced c))
+    (λ c. omega (arith, replaced c, many (to.message-from-known-told2 c)))
+    (λ c. omega (arith, replaced (to.known-told2-from-session c)))
+    (λ c. omega (arith, replaced (to.known-told2-from-session c), many (to.message-from-session c)))
+    (λ c. search needs)
+    (λ c. omega (arith, removed c .1))
+    (λ c. omega (arith, removed c .1, many (to.message-from-known-told3 c)))
+    (λ c. omega (arith, removed (to.known-told3-from-session3 c) .0))
+    (λ c. omega (arith, removed (to.known-told3-from-session3 c) .0, many (to.message-from-session3 c)))
+    (λ c κs. search needs)
+    (λ c. omega (arith, removed (to.known-told3-from-no-order c) .1))
+    (λ c. omega (arith, removed (to.known-told3-from-no-order c) .1, many (to.message-from-no-order c)))
+    (λ c. search needs)
+    (λ c. omega (arith, fewer (to.fetch-from-session2 c)))
     loop-again-4
-    (λ c. search needs)
-    (λ c κs. renew-room (decided (to.decide-from-known-told3 c)) (to.place3-from-known-told3 c .place3 .given .1))
-    (λ c. omega (arith, renew-within (decided (to.decide-from-inside-of c)) (to.place3-from-inside-of c .place3 .given .1), kept-here (to.decide-from-inside-of c) .insides, kept-here (to.decide-from-inside-of c) .held))
-    (λ c. omega (arith, renew-within (decided (to.decide-from-inside-of c)) (to.place3-from-inside-of c .place3 .given .1), kept-here (to.decide-from-inside-of c) .insides, kept-here (to.decide-from-inside-of c) .held))
-    (λ c. omega (arith, at (to.fetch-from-decide (to.decide-from-inside-of c)) .fewer))
+    (λ c. omega (arith, fewer (to.fetch-from-no-order c)))
     loop-again-5
-    (λ c. search needs)
-    (λ c κs. enter-room (decided (to.decide-from-enum-told2 c)) (c .enum-told2 .given .1))
-    (λ c. omega (arith, enter-few (decided (to.decide-from-inside-of2 c)) (to.enum-told2-from-inside-of2 c .enum-told2 .given .1), kept-here (to.decide-from-inside-of2 c) .insides, kept-here (to.decide-from-inside-of2 c) .fronts, kept-here (to.decide-from-inside-of2 c) .backs))
-    (λ c. omega (arith, enter-few (decided (to.decide-from-inside-of2 c)) (to.enum-told2-from-inside-of2 c .enum-told2 .given .1), kept-here (to.decide-from-inside-of2 c) .insides, kept-here (to.decide-from-inside-of2 c) .fronts, kept-here (to.decide-from-inside-of2 c) .backs))
-    (λ c κs. whole-from (to.message-from-decide (to.decide-from-inside-of2 c)))
-    (λ c κs. search needs)
-    (λ c. omega (arith, enter-few (decided (to.decide-from-front c)) (to.enum-told2-from-front c .enum-told2 .given .1), kept-here (to.decide-from-front c) .insides, kept-here (to.decide-from-front c) .fronts, kept-here (to.decide-from-front c) .backs))
-    (λ c. omega (arith, enter-few (decided (to.decide-from-front c)) (to.enum-told2-from-front c .enum-told2 .given .1), kept-here (to.decide-from-front c) .insides, kept-here (to.decide-from-front c) .fronts, kept-here (to.decide-from-front c) .backs))
-    (λ c κs. search needs)
-    (λ c. omega (arith, enter-few (decided (to.decide-from-back c)) (to.enum-told2-from-back c .enum-told2 .given .1), kept-here (to.decide-from-back c) .insides, kept-here (to.decide-from-back c) .fronts, kept-here (to.decide-from-back c) .backs))
-    (λ c. omega (arith, enter-few (decided (to.decide-from-back c)) (to.enum-told2-from-back c .enum-told2 .given .1), kept-here (to.decide-from-back c) .insides, kept-here (to.decide-from-back c) .fronts, kept-here (to.decide-from-back c) .backs))
-    (λ c. omega (arith, enter-few (decided (to.decide-from-back c)) (to.enum-told2-from-back c .enum-told2 .given .1), kept-here (to.decide-from-back c) .insides, kept-here (to.decide-from-back c) .fronts, kept-here (to.decide-from-back c) .backs))
-    (λ c κs. symbol-asks ((to.loop-from-decide (to.decide-from-put-arg2 c) .loop .inv .now) .held-at) (enter-few (decided (to.decide-from-put-arg2 c)) (to.enum-told2-from-put-arg2 c .enum-told2 .given .1)))
-    (λ c. omega (arith, at (to.fetch-from-decide (to.decide-from-put2 c)) .fewer))
+    (λ c. omega (arith, fewer (to.fetch-from-enum-told2 c)))
     loop-again-6
-    (λ c. search needs)
-    (λ c. omega (arith, at (to.fetch-from-decide (to.decide-from-known-told4 c)) .fewer))
-    loop-again-7
-    (λ c. search needs)
-    (λ c. omega (arith, at (to.fetch-from-decide (to.decide-from-enum-told3 c)) .fewer))
-    loop-again-8
-    (λ c. search needs)
-    (λ c κs. omega (arith, at (to.fetch-from-decide (to.decide-from-recorded-arg c)) .counted, at (to.fetch-from-decide (to.decide-from-recorded-arg c)) .below))
-    (λ c. omega (arith, at (to.fetch-from-decide (to.decide-from-recorded c)) .fewer))
-    loop-again-9)
+    (λ c κs. (telling-kind (bytes (to.message-from-tell-arg c)) (to.u8-at-from-tell-arg c .u8-at .ensures) (⊎-elim (λ low. inl (low .taken)) (λ high. inr (high .0 .left, high .1 .left)) (to.joined3-from-tell-arg c .if3 .came)), (first (to.message-from-tell-arg c), last (to.message-from-tell-arg c), book (to.message-from-tell-arg c), housed (to.message-from-tell-arg c))))
+    (λ c. omega (arith, fewer (to.fetch-from-tell c)))
+    loop-again-7)

@@ -1,0 +1,21 @@
+-- `capture::opened` keeps the session's rule: what is lent has its size, whichever session it was lent to.
+-- Assumes nothing.
+mod Points
+use Rattle.session.proofs.Answers.{sized}
+use borrow.Author.Needs.{needs}
+use Rattle.capture.proofs.opened.Proof.Points as to
+use Rattle.capture.proofs.opened.Statement.{statement}
+use Rattle.capture.proofs.opened.Tie as tie
+
+pub opened-spec : {M : Type 1} → statement M
+opened-spec =
+    tie.close
+    (tie.spec
+    (λ c. search needs)
+    (λ c κs. search needs)
+    (λ c. search needs)
+    (λ c. search needs)
+    (λ c. search needs)
+    (λ c κs. search needs)
+    (λ c κs. sized (to.entry-from-open-arg2 c .pre))
+    (λ c. search needs))

@@ -1,0 +1,3 @@
+-- Laws of `exports`' definitions, and of walks that hand parameters on.
+pub mod Handed
+pub mod Passed

@@ -1,0 +1,2 @@
+-- What `exports` promises: the packets that lent bytes are, and the numbers in which an export tells its answer.
+pub mod Handed
