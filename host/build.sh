@@ -1,5 +1,6 @@
 #!/bin/sh
-# Proves the crate replay with all it stands on and writes the archive that the Rust crate links.
+# Proves the crates of exports with all they stand on and writes the archives that the Rust crates link.
 set -eu
 cd "$(dirname "$0")/.."
+rt staticlib exports
 exec rt staticlib replay

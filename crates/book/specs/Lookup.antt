@@ -2,11 +2,13 @@
 -- Assumes nothing.
 use mathlib.Core.Bool.{Bool, true, false, cond, _&&_}
 use mathlib.Core.List.{List, [], _∷_}
-use Prim.Native.Nat.{ℕ, zero, suc}
+use mathlib.Core.Path.{_≡_}
+use Prim.Native.Nat.{ℕ, zero, suc, _≤_}
 use lib.Dec.{eqb}
 use Rattle.wire.specs.Number.{num, part}
 use Rattle.fields.specs.Id.{noValue}
 use Rattle.book.specs.declared.lookup.Found.{Found}
+use Rattle.book.specs.declared.lookup.Parts.{Parts}
 use Rattle.book.specs.declared.lookup.Found.the-variants.{At, Nothing}
 
 -- whether it is there, and its place
@@ -37,6 +39,18 @@ backOf symbol = num (part symbol 6 8)
 
 unfoldable pub sameSymbol : List ℕ → List ℕ → Bool
 sameSymbol one other = eqb (frontOf one) (frontOf other) && eqb (backOf one) (backOf other)
+
+-- the same by three numbers that share no byte: the first eight bytes, the next four and the last two (the law `same-apart`)
+unfoldable pub sameParts : Parts → Parts → Bool
+sameParts one other = eqb (one .first) (other .first) && (eqb (one .middle) (other .middle) && eqb (one .last) (other .last))
+
+-- they are a symbol's; and two of its bytes make a number of 16 bits
+pub record Apart (symbol : List ℕ) (p : Parts) : Type 0 where
+  pub first : p .first ≡ num (part symbol 0 8)
+  pub middle : p .middle ≡ num (part symbol 8 4)
+  pub last : p .last ≡ num (part symbol 12 2)
+  pub low : num (part symbol 6 2) ≤ 65535
+  pub short : num (part symbol 12 2) ≤ 65535
 
 unfoldable pub pairFrom : ℕ → ℕ → ℕ → List ℕ → List ℕ → Found
 pairFrom k first last [] [] = Nothing

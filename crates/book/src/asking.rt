@@ -1,6 +1,7 @@
 // The replies to what can be asked, and the best of a table. Beside a refusal the record is all zero.
-use crate::lookup::back;
-use crate::lookup::front;
+use crate::lookup::Parts;
+use crate::lookup::parts_of;
+use crate::lookup::same;
 use crate::tables::Inside;
 use crate::tables::ORDERS;
 use crate::tables::Order;
@@ -14,7 +15,7 @@ ghost use mathlib.Core.List.{List};
 ghost use Prim.Native.Nat.{ℕ, _≤_};
 ghost use lib.ListN.{length, take};
 ghost use Rattle.fields.specs.Rules.{goodSymbol, goodSide};
-ghost use Rattle.book.specs.Lookup.{frontOf, backOf};
+ghost use Rattle.book.specs.Lookup.{Apart};
 ghost use Rattle.book.specs.Asking.{bestFor, better as betterOf, Joins, isOf, noOrderFor, noInsideFor, noLevel, noLevelFor, replyWith, Room};
 
 // Refused: 12 where a rule is broken, 13 where there is none.
@@ -90,26 +91,23 @@ fn better(side: u8, price: u64, other: u64) -> bool
     }
 }
 
-// A symbol is told by its two numbers, which are worked out once for a whole table; the side is the cheapest test.
-fn belongs(first: u64, last: u64, side: u8, order: Order) -> bool
-    ensures { λ r. ⌜ ((symbol : List ℕ) → first ≡ frontOf symbol → last ≡ backOf symbol → r ≡ isOf symbol side order) ⌝ }
+// A symbol is told by its parts, which are worked out once for a whole table; the side is the cheapest test.
+fn belongs(parts: Parts, side: u8, order: Order) -> bool
+    ensures { λ r. ⌜ ((symbol : List ℕ) → Apart symbol parts → r ≡ isOf symbol side order) ⌝ }
 {
     if order.side != side {
         return false;
     }
     let listed = order.symbol;
-    if front(listed) != first {
-        return false;
-    }
-    back(listed) == last
+    same(parts_of(listed), parts)
 }
 
 // One order more: the level it makes alone, the level with it, or the level as it was.
-pub fn join(first: u64, last: u64, side: u8, order: Order, level: Level) -> Level
+pub fn join(parts: Parts, side: u8, order: Order, level: Level) -> Level
     requires { ⌜ Room level ⌝ }
-    ensures { λ r. ⌜ ((symbol : List ℕ) → first ≡ frontOf symbol → last ≡ backOf symbol → Joins symbol side order level r) ⌝ }
+    ensures { λ r. ⌜ ((symbol : List ℕ) → Apart symbol parts → Joins symbol side order level r) ⌝ }
 {
-    if !belongs(first, last, side, order) {
+    if !belongs(parts, side, order) {
         return level;
     }
     let alone = Level {
@@ -169,14 +167,13 @@ pub fn best(orders: [Order; ORDERS], live: usize, symbol: [u8; 14], side: u8) ->
     ensures { λ r. ⌜ r ≡ bestFor (take live orders) symbol side ⌝ }
 {
     let good = good_question(symbol, side);
-    let first = front(symbol);
-    let last = back(symbol);
+    let parts = parts_of(symbol);
     let mut level = no_level();
     let mut k = due(good, live);
     while 0 < k {
         k -= 1;
         let order = orders[k];
-        level = join(first, last, side, order, level);
+        level = join(parts, side, order, level);
     }
     reply_with(good, level)
 }

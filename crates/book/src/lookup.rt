@@ -1,6 +1,8 @@
-// Parts: what a look-up found, and a symbol as two numbers.
+// Parts: what a look-up found, and a symbol as numbers.
 ghost use mathlib.Core.Path.{_≡_};
-ghost use Rattle.book.specs.Lookup.{frontOf, backOf, placeFound};
+ghost use Prim.Native.Nat.{_≤_};
+ghost use lib.ListN.{length};
+ghost use Rattle.book.specs.Lookup.{frontOf, backOf, placeFound, sameParts, Apart};
 
 pub enum Found {
     At(usize),
@@ -28,4 +30,40 @@ pub fn back(symbol: [u8; 14]) -> u64
     ensures { λ r. ⌜ r ≡ backOf symbol ⌝ }
 {
     wire::u64_at(&symbol, 6)
+}
+
+// A symbol's first eight bytes, the next four and the last two. They share no byte, so each is one load.
+pub struct Parts {
+    pub first: u64,
+    pub middle: u32,
+    pub last: u16,
+}
+
+fn parts_in(symbol: &[u8]) -> Parts
+    requires { ⌜ 14 ≤ length (now symbol) ⌝ }
+    ensures { λ r. ⌜ Apart (now (symbol .entry)) r ⌝ }
+{
+    Parts {
+        first: wire::u64_at(symbol, 0),
+        middle: wire::u32_at(symbol, 8),
+        last: wire::u16_at(symbol, 12),
+    }
+}
+
+pub fn parts_of(symbol: [u8; 14]) -> Parts
+    ensures { λ r. ⌜ Apart symbol r ⌝ }
+{
+    parts_in(&symbol)
+}
+
+pub fn same(one: Parts, other: Parts) -> bool
+    ensures { λ r. ⌜ r ≡ sameParts one other ⌝ }
+{
+    if one.first != other.first {
+        return false;
+    }
+    if one.middle != other.middle {
+        return false;
+    }
+    one.last == other.last
 }

@@ -8,7 +8,8 @@ use borrow.Fn.World.{Pr, World}
 use denote.Ref.{now}
 use Rattle.packet_reader.specs.Cursors.{lent}
 use Rattle.packet_reader.specs.Steps.{seen}
-use Rattle.session.specs.Meaning.{Held}
+use Rattle.session.specs.Meaning.{Held, Ruled, held}
+use Rattle.session.specs.declared.state.Session.{Session}
 use Rattle.fields.proofs.id.value.Reads as fields-value
 use Rattle.fields.proofs.id.good_id.Reads as fields-good-id
 use Rattle.fields.proofs.rules.good_symbol.Reads as fields-good-symbol
@@ -37,6 +38,8 @@ use Rattle.book.proofs.asking.best.Reads as book-best
 use Rattle.session.proofs.state.Session.open.Reads as session-open
 use Rattle.session.proofs.packets.take.Reads as session-take
 use Rattle.session.proofs.packets.burst.Reads as session-burst
+use Rattle.session.proofs.passing.pass.Reads as session-pass
+use Rattle.session.proofs.quoting.quotes.Reads as session-quotes
 use Rattle.session.proofs.asking.next.Reads as session-next
 use Rattle.session.proofs.asking.end.Reads as session-end
 use Rattle.session.proofs.asking.code.Reads as session-code
@@ -197,7 +200,7 @@ pub session-take-window : (κs : _) (a : _) (one other : _) (s t : _) → sessio
 session-take-window κs a one other s t p q = window-of (once (p .0) (q .0))
 
 pub session-burst-once : Once session-burst.Post
-session-burst-once κs a one other s t p q = λ i. record { session = session-of (once (p .0) (q .0)) i; count = once (p .1 .0) (q .1 .0) i }
+session-burst-once κs a one other s t p q = λ i. record { session = session-of (once (p .0) (q .0)) i; count = once (p .1 .0) (q .1 .0) i; bytes = once (p .1 .1 .0) (q .1 .1 .0) i }
 
 pub session-burst-room : (κs : _) (a : _) (one other : _) (s t : _) → session-burst.Post κs a one s → session-burst.Post κs a other t → now (s .1 .0) ≡ now (t .1 .0)
 session-burst-room κs a one other s t p q = room-of (once (p .0) (q .0))
@@ -205,8 +208,24 @@ session-burst-room κs a one other s t p q = room-of (once (p .0) (q .0))
 pub session-burst-window : (κs : _) (a : _) (one other : _) (s t : _) → session-burst.Post κs a one s → session-burst.Post κs a other t → now (s .1 .1 .0) ≡ now (t .1 .1 .0)
 session-burst-window κs a one other s t p q = window-of (once (p .0) (q .0))
 
-pub session-burst-answers : (κs : _) (a : _) (one other : _) (s t : _) → session-burst.Post κs a one s → session-burst.Post κs a other t → now (s .1 .1 .1 .1 .0) ≡ now (t .1 .1 .1 .1 .0)
-session-burst-answers κs a one other s t p q = once (p .1 .1 .0) (q .1 .1 .0)
+pub session-burst-answers : (κs : _) (a : _) (one other : _) (s t : _) → session-burst.Post κs a one s → session-burst.Post κs a other t → now (s .1 .1 .1 .1 .1 .0) ≡ now (t .1 .1 .1 .1 .1 .0)
+session-burst-answers κs a one other s t p q = once (p .1 .1 .1 .0) (q .1 .1 .1 .0)
+
+pub session-pass-once : Once session-pass.Post
+session-pass-once κs a one other s t p q = once (p .0) (q .0)
+
+-- the memory that it is lent, with whatever session it is held
+pub session-pass-room : (κs : _) (a : _) (one other : _) (s t : _) → session-pass.Post κs a one s → session-pass.Post κs a other t → (session : Session) → Ruled (held session (now (a .0)) (now (a .1 .0))) → now (s .0) ≡ now (t .0)
+session-pass-room κs a one other s t p q session rule = room-of (once (p .1 .0 session rule) (q .1 .0 session rule))
+
+pub session-pass-window : (κs : _) (a : _) (one other : _) (s t : _) → session-pass.Post κs a one s → session-pass.Post κs a other t → (session : Session) → Ruled (held session (now (a .0)) (now (a .1 .0))) → now (s .1 .0) ≡ now (t .1 .0)
+session-pass-window κs a one other s t p q session rule = window-of (once (p .1 .0 session rule) (q .1 .0 session rule))
+
+pub session-quotes-once : Once session-quotes.Post
+session-quotes-once κs a one other s t p q = once (p .0) (q .0)
+
+pub session-quotes-replies : (κs : _) (a : _) (one other : _) (s t : _) → session-quotes.Post κs a one s → session-quotes.Post κs a other t → now (s .1 .1 .1 .0) ≡ now (t .1 .1 .1 .0)
+session-quotes-replies κs a one other s t p q = once (p .1) (q .1)
 
 pub session-next-once : Once session-next.Post
 session-next-once κs a one other s t = once

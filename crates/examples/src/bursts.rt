@@ -30,7 +30,14 @@ fn answered(packets: &[u8], list: &mut [u64], size: usize) {
         let mut room = [0u64; Session::ROOM];
         let mut window = [0u8; Session::PLACES];
         let session = Session::open(10, &mut room, &mut window);
-        let taken = packets::burst(session, &mut room, &mut window, packets, &mut list[0..size]);
+        let taken = packets::burst(
+            session,
+            &mut room,
+            &mut window,
+            packets,
+            3,
+            &mut list[0..size],
+        );
         let count = taken.count;
         counted(count);
         answers::numbers(&room);

@@ -1,3 +1,4 @@
 -- Laws of `exports`' definitions, and of walks that hand parameters on.
+pub mod Told
 pub mod Handed
 pub mod Passed

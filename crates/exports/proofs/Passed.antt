@@ -1,4 +1,4 @@
--- Helpers of a walk that hands its parameters on to a callee. They say nothing of the crate, and can be copied as they stand.
+-- Laws of a walk that hands its parameters on to a callee. They say nothing of what the callee does.
 --     passed, goes-passed      what the walk has at exit of a parameter that it handed on, or did not touch: what the contract says of its last value, and no more. It fits any parameter, and its law asks nothing
 --     one, and-one, says-all   an `ensures` of several clauses, shown at the walk's end
 -- Assumes nothing.

@@ -1,20 +1,41 @@
--- Lent bytes as packets, and what is told of them.
+-- Lent bytes as packets, and what comes of handing them in.
 -- Assumes nothing.
-use mathlib.Core.Bool.{cond}
+use mathlib.Core.Bool.{Bool, false, cond}
 use mathlib.Core.List.{List, [], _∷_}
 use Prim.Native.Nat.{ℕ, _*_}
 use lib.Dec.{eqb, ltb}
-use lib.ListN.{length, set}
-use Rattle.window_taking.specs.Turns.{packetsIn}
+use lib.ListN.{length}
+use Rattle.wire.specs.Number.{splice}
+use Rattle.merge.specs.State.{takeAll}
+use Rattle.window_taking.specs.Turns.{endFrom, packetsIn}
+use Rattle.session.specs.Meaning.{Meaning, overnight}
+use Rattle.session.specs.Bursts.{rowsOf}
+use Rattle.exports.specs.Told.{over}
 
--- each packet behind its length, or, where the number is not 0, the bytes as one packet
-abbrev pub packetsBy : ℕ → List ℕ → List (List ℕ)
-packetsBy single s = cond (eqb single 0) (packetsIn s) (s ∷ [])
+-- how many the host says: one, where the bytes are one packet
+abbrev pub mostBy : ℕ → ℕ → ℕ
+mostBy single count = cond (eqb single 0) count 1
 
--- two numbers over what was lent for them
-abbrev pub pairOver : List ℕ → ℕ → ℕ → List ℕ
-pairOver old a b = set (set old 0 a) 1 b
+-- the first packets, each behind its length, or all that there are; or, where the first number is not 0, the bytes as one packet
+abbrev pub packetsBy : ℕ → ℕ → List ℕ → List (List ℕ)
+packetsBy single count s = cond (eqb single 0) (packetsIn count s) (s ∷ [])
 
--- the refusal, and how many were taken: 11 and none exactly if the list of answers is too short
-unfoldable pub takenTold : List (List ℕ) → ℕ → List ℕ → List ℕ
-takenTold packets n old = cond (ltb n (4 * length packets)) (pairOver old 11 0) (pairOver old 0 (length packets))
+-- how many bytes they are, with their lengths
+abbrev pub bytesBy : ℕ → ℕ → List ℕ → ℕ
+bytesBy single count s = cond (eqb single 0) (endFrom false count 0 s) (length s)
+
+-- the list is too short for so many answers, four numbers each
+abbrev pub shortBy : ℕ → ℕ → ℕ → Bool
+shortBy single count n = ltb n (4 * mostBy single count)
+
+-- ---- then nothing is taken, and all is as it was
+
+unfoldable pub takenBy : Meaning → ℕ → ℕ → List ℕ → ℕ → Meaning
+takenBy x single count s n = cond (shortBy single count n) x (takeAll overnight x (packetsBy single count s))
+
+unfoldable pub answersBy : Meaning → ℕ → ℕ → List ℕ → List ℕ → List ℕ
+answersBy x single count s answers = cond (shortBy single count (length answers)) answers (splice answers 0 (rowsOf x (packetsBy single count s)))
+
+-- the refusal, 11 or 0, how many packets were taken, and how many bytes they are
+unfoldable pub takenTold : ℕ → ℕ → List ℕ → ℕ → List ℕ → List ℕ
+takenTold single count s n old = cond (shortBy single count n) (over (11 ∷ 0 ∷ 0 ∷ []) old) (over (0 ∷ length (packetsBy single count s) ∷ bytesBy single count s ∷ []) old)

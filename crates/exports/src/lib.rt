@@ -1,16 +1,27 @@
 // Exports for C and Rust over one session that the host holds: the orders, and beside them the room and
 // the window, which it lends with each call. Told numbers go into lists that are lent too.
+mod asking;
+mod passing;
 mod taking;
 
+pub use asking::jangsebit_gap;
+pub use asking::jangsebit_inside;
+pub use asking::jangsebit_numbers;
+pub use asking::jangsebit_requests;
 use book_room::room::Room;
+pub use passing::jangsebit_pass;
 use session::state::Session;
 use window::places::Window;
 ghost use mathlib.Core.Path.{_≡_};
+ghost use Prim.Native.Nat.{ℕ};
+ghost use mathlib.Core.List.{List};
 ghost use lib.ListN.{length};
 ghost use Rattle.merge.specs.State.{opened};
-ghost use Rattle.session.specs.Meaning.{feed, held, rep, view, Ruled, Sized};
-ghost use Rattle.session.specs.Bursts.{answersAfter, burstOf};
-ghost use Rattle.exports.specs.Handed.{packetsBy, takenTold};
+ghost use Rattle.session.specs.Meaning.{feed, held, rep, tablesIn, view, Ruled, Sized};
+ghost use Rattle.book.specs.Asking.{orderAsked};
+ghost use Rattle.exports.specs.Handed.{answersBy, takenBy, takenTold};
+ghost use Rattle.session.specs.Quoting.{quotedOf, quotesAfter, refusalIn};
+ghost use Rattle.exports.specs.Told.{orderTold, quotedRefusal};
 
 // The version of these exports.
 #[no_mangle]
@@ -35,9 +46,10 @@ pub extern "C" fn jangsebit_open(
     *session = taking::open(room, window, number);
 }
 
-// Packets, each behind its length of 2 bytes, or, where `single` is not 0, one packet that the bytes are. Four
-// numbers answer each: how many messages were applied, the refusal or 0, then next and end. Told are the refusal and
-// how many packets were taken; 11 where the answers do not fit, and then nothing is taken.
+// The first packets of the lent bytes, each behind its length of 2 bytes: as many as the count says, or all that there
+// are. Where `single` is not 0 the bytes are one packet, and the count is not looked at: it is 1. Four numbers answer
+// each: how many messages were applied, the refusal or 0, then next and end. Told are the refusal, how many packets were
+// taken and how many bytes they are; 11 where the answers to so many do not fit, and then nothing is taken.
 #[no_mangle]
 pub extern "C" fn jangsebit_packets(
     session: &mut Session,
@@ -45,14 +57,58 @@ pub extern "C" fn jangsebit_packets(
     window: &mut Window,
     packets: &[u8],
     single: u64,
+    count: u64,
     answers: &mut [u64],
-    told: &mut [u64; 2],
+    told: &mut [u64; 3],
 )
     requires { ⌜ Ruled (held (now session) (now room) (now window)) ⌝ }
-    ensures taken { λ _. ⌜ held (now (session .exit)) (now (room .exit)) (now (window .exit)) ≡ rep (burstOf (view (held (now (session .entry)) (now (room .entry)) (now (window .entry)))) (packetsBy single (now (packets .entry))) (length (now (answers .entry)))) ⌝ }
-    ensures answers { λ _. ⌜ now (answers .exit) ≡ answersAfter (view (held (now (session .entry)) (now (room .entry)) (now (window .entry)))) (packetsBy single (now (packets .entry))) (now (answers .entry)) ⌝ }
-    ensures told { λ _. ⌜ now (told .exit) ≡ takenTold (packetsBy single (now (packets .entry))) (length (now (answers .entry))) (now (told .entry)) ⌝ }
+    ensures taken { λ _. ⌜ held (now (session .exit)) (now (room .exit)) (now (window .exit)) ≡ rep (takenBy (view (held (now (session .entry)) (now (room .entry)) (now (window .entry)))) single count (now (packets .entry)) (length (now (answers .entry)))) ⌝ }
+    ensures answers { λ _. ⌜ now (answers .exit) ≡ answersBy (view (held (now (session .entry)) (now (room .entry)) (now (window .entry)))) single count (now (packets .entry)) (now (answers .entry)) ⌝ }
+    ensures told { λ _. ⌜ now (told .exit) ≡ takenTold single count (now (packets .entry)) (length (now (answers .entry))) (now (told .entry)) ⌝ }
     ensures rule { λ _. ⌜ Ruled (held (now (session .exit)) (now (room .exit)) (now (window .exit))) ⌝ }
 {
-    *session = taking::packets(*session, room, window, packets, single, answers, told);
+    *session = taking::packets(
+        *session,
+        room,
+        window,
+        packets,
+        single,
+        count,
+        answers,
+        told,
+    );
+}
+
+// The live order of an id: the id's value, price, shares, firm, the symbol's first eight bytes and its last eight as
+// numbers, side, unsolicited. The answer is the refusal: 12 where the id breaks its rule, 13 where no such order is
+// live, else 0.
+#[no_mangle]
+pub extern "C" fn jangsebit_order(
+    session: &Session,
+    room: &Room,
+    id: &[u8; 14],
+    told: &mut [u64; 8],
+) -> u64
+    requires { ⌜ ((window : List ℕ) × Ruled (held (now session) (now room) window)) ⌝ }
+    ensures refusal { λ r. ⌜ r ≡ refusalIn (orderAsked (tablesIn (now (session .entry)) (now (room .entry))) (now (id .entry)) .reply) ⌝ }
+    ensures told { λ r. ⌜ now (told .exit) ≡ orderTold (orderAsked (tablesIn (now (session .entry)) (now (room .entry))) (now (id .entry))) (now (told .entry)) ⌝ }
+{
+    asking::order(*session, room, id, told)
+}
+
+// The best prices of many symbols and sides, 15 bytes a question. Four numbers answer each: the refusal or 0, the
+// price, the sum of shares there and the number of orders. The answer is 11 where the replies do not fit, and then
+// nothing is written, else 0.
+#[no_mangle]
+pub extern "C" fn jangsebit_quotes(
+    session: &Session,
+    room: &Room,
+    asked: &[u8],
+    replies: &mut [u64],
+) -> u64
+    requires { ⌜ ((window : List ℕ) × Ruled (held (now session) (now room) window)) ⌝ }
+    ensures refusal { λ r. ⌜ r ≡ quotedRefusal (quotedOf (length (now (asked .entry))) (length (now (replies .entry)))) ⌝ }
+    ensures replies { λ r. ⌜ now (replies .exit) ≡ quotesAfter (tablesIn (now (session .entry)) (now (room .entry))) (now (asked .entry)) (now (replies .entry)) ⌝ }
+{
+    asking::quotes(*session, room, asked, replies)
 }

@@ -3,15 +3,12 @@ use book_room::room::Room;
 use session::running::run;
 use session::state::Session;
 use window::places::Window;
-use window_taking::burst::whole;
 ghost use mathlib.Core.Path.{_≡_};
 ghost use mathlib.Core.Bool.{cond};
 ghost use lib.ListN.{length};
 ghost use Rattle.merge.specs.State.{opened};
 ghost use Rattle.session.specs.Meaning.{feed, held, rep, view, Ruled, Sized};
-ghost use Rattle.session.specs.Bursts.{answersAfter, burstOf};
-ghost use Rattle.window_taking.specs.Turns.{framesOf};
-ghost use Rattle.exports.specs.Handed.{packetsBy, takenTold};
+ghost use Rattle.exports.specs.Handed.{answersBy, takenBy, takenTold};
 
 // A fresh session.
 pub fn open(room: &mut Room, window: &mut Window, number: u32) -> Session
@@ -22,17 +19,14 @@ pub fn open(room: &mut Room, window: &mut Window, number: u32) -> Session
     Session::open(number, room, window)
 }
 
-// How many packets the lent bytes are.
-fn count_in(packets: &[u8], single: bool) -> usize
-    ensures { λ r. ⌜ r ≡ length (framesOf single (now (packets .entry))) ⌝ }
+// How many the host says; bytes that are one packet are one.
+fn most_of(one: bool, count: usize) -> usize
+    ensures { λ r. ⌜ r ≡ cond one 1 count ⌝ }
 {
-    if single {
-        return 1;
-    }
-    whole(packets)
+    if one { 1 } else { count }
 }
 
-// All are taken where their answers fit, else none.
+// None is taken where the answers do not fit.
 fn due_of(fits: bool, count: usize) -> usize
     ensures { λ r. ⌜ r ≡ cond fits count 0 ⌝ }
 {
@@ -52,21 +46,24 @@ pub fn packets(
     window: &mut Window,
     packets: &[u8],
     single: u64,
+    count: u64,
     answers: &mut [u64],
-    told: &mut [u64; 2],
+    told: &mut [u64; 3],
 ) -> Session
     requires { ⌜ Ruled (held session (now room) (now window)) ⌝ }
-    ensures taken { λ r. ⌜ held r (now (room .exit)) (now (window .exit)) ≡ rep (burstOf (view (held session (now (room .entry)) (now (window .entry)))) (packetsBy single (now (packets .entry))) (length (now (answers .entry)))) ⌝ }
-    ensures answers { λ r. ⌜ now (answers .exit) ≡ answersAfter (view (held session (now (room .entry)) (now (window .entry)))) (packetsBy single (now (packets .entry))) (now (answers .entry)) ⌝ }
-    ensures told { λ r. ⌜ now (told .exit) ≡ takenTold (packetsBy single (now (packets .entry))) (length (now (answers .entry))) (now (told .entry)) ⌝ }
+    ensures taken { λ r. ⌜ held r (now (room .exit)) (now (window .exit)) ≡ rep (takenBy (view (held session (now (room .entry)) (now (window .entry)))) single count (now (packets .entry)) (length (now (answers .entry)))) ⌝ }
+    ensures answers { λ r. ⌜ now (answers .exit) ≡ answersBy (view (held session (now (room .entry)) (now (window .entry)))) single count (now (packets .entry)) (now (answers .entry)) ⌝ }
+    ensures told { λ r. ⌜ now (told .exit) ≡ takenTold single count (now (packets .entry)) (length (now (answers .entry))) (now (told .entry)) ⌝ }
     ensures rule { λ r. ⌜ Ruled (held r (now (room .exit)) (now (window .exit))) ⌝ }
 {
     let one = single != 0;
-    let count = count_in(packets, one);
-    let fits = count <= answers.len() / 4;
-    let due = due_of(fits, count);
-    let after = run(session, room, window, packets, one, due, answers);
+    let most = most_of(one, count as usize);
+    let fits = most <= answers.len() / 4;
+    let due = due_of(fits, most);
+    let ran = run(session, room, window, packets, one, due, answers);
+    let after = ran.session;
     told[0] = refusal_of(fits);
-    told[1] = due as u64;
+    told[1] = ran.taken as u64;
+    told[2] = ran.at as u64;
     after
 }

@@ -18,31 +18,12 @@ pub struct Ran {
     pub packets: usize,
 }
 
-// Where the next packets end, whole ones and at most so many. Where all bytes left have no more packets than that, it
-// is the end of the bytes, and no packet is looked at.
-fn behind(packets: &[u8], from: usize, most: usize) -> usize
-    requires { ⌜ from ≤ length (now packets) ⌝ }
-    ensures { λ r. ⌜ (from ≤ r) × (r ≤ length (now (packets .entry))) ⌝ }
+// As many packets as a burst is of, or as many as there is room left to answer.
+fn asked(each: usize, room: usize) -> usize
+    ensures { λ r. ⌜ 4 * r ≤ room ⌝ }
 {
-    let all = packets.len();
-    if (all - from) / 2 <= most {
-        return all;
-    }
-    let mut at = from;
-    let mut more = most;
-    while 0 < more {
-        let left = all - at;
-        if left < 2 {
-            return at;
-        }
-        let size = wire::u16_at(packets, at) as usize;
-        if left - 2 < size {
-            return at;
-        }
-        at += 2 + size;
-        more -= 1;
-    }
-    at
+    let most = room / 4;
+    if each < most { each } else { most }
 }
 
 // A part: a fresh session with all packets handed in, so many to a burst; none where a burst is of none. What does not
@@ -63,19 +44,13 @@ pub fn run(
     let mut at = 0;
     let mut place = 0;
     loop {
-        let stop = behind(packets, at, each);
-        if stop == at {
-            return Ran {
-                session,
-                packets: place / 4,
-            };
-        }
-        let most = (answers.len() - place) / 4;
+        let most = asked(each, answers.len() - place);
         let taken = burst(
             session,
             room,
             window,
-            &packets[at..stop],
+            &packets[at..],
+            most,
             &mut answers[place..],
         );
         session = taken.session;
@@ -86,14 +61,14 @@ pub fn run(
                 packets: place / 4,
             };
         };
-        if most < n {
+        if n == 0 {
             return Ran {
                 session,
                 packets: place / 4,
             };
         }
         place += 4 * n;
-        at = stop;
+        at += taken.bytes;
     }
 }
 

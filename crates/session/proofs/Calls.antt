@@ -2,13 +2,13 @@
 -- Assumes nothing.
 use mathlib.Core.Path.{_≡_, refl, ap, ap₂, _∙_, sym, subst}
 use mathlib.Core.Bool.{Bool, true, false, cond, not, _&&_}
-use mathlib.Core.List.{List, [], _∷_, _++_, map}
+use mathlib.Core.List.{List, [], _∷_, _++_}
 use mathlib.Core.Option.{none, some}
 use Prim.Native.Nat.{ℕ, zero, suc, _+_, _-_, _*_, _/_, _%_, _≤_, _<_, min, max}
 use native.Mathlib.Omega.{arith}
-use borrow.Author.Tests.{eq-eqb, le-leb, le-ltb, leb-false, leb-true, lt-leb, lt-ltb, ne-eqb}
+use borrow.Author.Tests.{eq-eqb, le-ltb, leb-false, leb-true, lt-ltb, ne-eqb}
 use lib.Dec.{eqb, leb, ltb}
-use lib.ListN.{length, getD, replicate, set, take, length-map}
+use lib.ListN.{length, getD, replicate, set}
 use Rattle.wire.specs.Number.{Bytes, part, splice}
 use Rattle.wire.proofs.Place.{part-all, part-bytes, splice-none}
 use Rattle.merge.specs.State.{opened, takeAll, takeOne}
@@ -28,13 +28,13 @@ use Rattle.book_index.specs.Chains.{indexOf}
 use Rattle.book_room.specs.Room.{partsOf}
 use Rattle.book_room.specs.Room.{rowsOf as insideRows}
 use Rattle.window_taking.specs.Keeping.{waitingOf, windowFor}
-use Rattle.window_taking.specs.Taking.{bytesAt, takeTests, waitTests}
-use Rattle.window_taking.specs.Turns.{framesOf, packetsOf}
+use Rattle.window_taking.specs.Taking.{takeTests, waitTests}
+use Rattle.window_taking.specs.Turns.{behind, cutAt, endFrom, frameAt, packetAt, packetsFrom, packetsIn}
 use Rattle.window_taking.proofs.Windows.{waits-place}
 use Rattle.session.specs.Meaning.{AllBytes, Held, Ruled, Meaning, endIn, feed, held, nextIn, overnight, rep, view}
 use Rattle.book_index.proofs.Laws.{index-empty}
 use Rattle.session.specs.Asking.{gapFrom, gapsOf, lacks, limit, lineIn, missing, placed}
-use Rattle.session.specs.Bursts.{answerOf, answered, answersAfter, burstOf, countIf, countOf, refusalOf, rowOf, rowsOf}
+use Rattle.session.specs.Bursts.{answerOf, answered, answersAfter, burstOf, bytesOf, countIf, countOf, refusalOf, rowOf, rowsOf}
 use Rattle.session.specs.Bursts.{Runs}
 use Rattle.session.specs.declared.packets.Answer.{Answer}
 use Rattle.session.specs.declared.packets.Answer.the-variants.{Applied, Refused}
@@ -119,13 +119,17 @@ refusal-small x s =
     (few-more 10 (packetTests s) (unlessHeartbeat (header.heartbeat (headerIn s .flag)) (waitTests x s)) (packet-few 10 s refl refl)
     (few-unless 10 (header.heartbeat (headerIn s .flag)) (waitTests x s) refl))
 
-pub one-packet : (s : List ℕ) → packetsOf true s ≡ s ∷ []
-one-packet s = ap (λ (l : List ℕ). l ∷ []) (part-all s)
+pub one-packet : (s : List ℕ) → packetsFrom true 1 0 s ≡ s ∷ []
+unfolding packetsFrom
+one-packet s =
+    let e : length s - 0 ≡ length s = omega arith in
+    ap (λ (b : Bool). cond b [] (part s 0 (length s - 0) ∷ [])) (le-ltb (length s) (0 + (length s - 0)) (omega arith))
+    ∙ ap (λ (l : List ℕ). l ∷ []) (ap (part s 0) e ∙ part-all s)
 
-pub one-runs : (s : List ℕ) → Runs true s 1 4
-one-runs s = record { all = omega arith; room = omega arith; big = omega arith }
+pub one-runs : Runs 1 4
+one-runs = record { room = omega arith; big = omega arith }
 
-module _ (x : Meaning) (s : List ℕ) {l : List ℕ} (rows : l ≡ splice (0 ∷ 0 ∷ 0 ∷ 0 ∷ []) 0 (rowsOf x (take 1 (packetsOf true s)))) where
+module _ (x : Meaning) (s : List ℕ) {l : List ℕ} (rows : l ≡ splice (0 ∷ 0 ∷ 0 ∷ 0 ∷ []) 0 (rowsOf x (packetsFrom true 1 0 s))) where
   four : l ≡ rowOf x s
   unfolding splice rowsOf
   four = rows ∙ ap (λ (ps : List (List ℕ)). splice (0 ∷ 0 ∷ 0 ∷ 0 ∷ []) 0 (rowsOf x ps)) (one-packet s)
@@ -133,7 +137,7 @@ module _ (x : Meaning) (s : List ℕ) {l : List ℕ} (rows : l ≡ splice (0 ∷
   pub told-refusal : getD l 1 0 ≤ 255
   told-refusal = subst (λ (k : List ℕ). getD k 1 0 ≤ 255) (sym four) (omega (arith, refusal-small x s))
 
-  pub taken-is : {after : Held} → after ≡ rep (takeAll overnight x (take 1 (packetsOf true s))) → after ≡ rep (takeOne overnight x s)
+  pub taken-is : {after : Held} → after ≡ rep (takeAll overnight x (packetsFrom true 1 0 s)) → after ≡ rep (takeOne overnight x s)
   unfolding takeAll
   taken-is e = e ∙ ap (λ (ps : List (List ℕ)). rep (takeAll overnight x ps)) (one-packet s)
 
@@ -150,83 +154,64 @@ answer-some applied refusal e = sym (ap (λ (b : Bool). cond b (Applied applied)
 
 -- ---- a burst
 
-pub parts-bytes : (s : List ℕ) → Bytes s → (fs : List (ℕ × ℕ)) → AllBytes (map (bytesAt s) fs)
-parts-bytes s bytes [] = tt
-parts-bytes s bytes (f ∷ fs) = (part-bytes s (f .0) (f .1) bytes, parts-bytes s bytes fs)
+pub packets-bytes : (single : Bool) (n at : ℕ) (s : List ℕ) → Bytes s → AllBytes (packetsFrom single n at s)
+unfolding packetsFrom
+packets-bytes single zero at s bytes = tt
+packets-bytes single (suc n) at s bytes = go (cutAt single s at) (packets-bytes single n (behind single s at) s bytes)
+  where
+    go : (b : Bool) → AllBytes (packetsFrom single n (behind single s at) s) → AllBytes (cond b [] (packetAt single s at ∷ packetsFrom single n (behind single s at) s))
+    go true more = tt
+    go false more = (part-bytes s (frameAt single s at .start) (frameAt single s at .size) bytes, more)
 
-take-all : (ss : List (List ℕ)) → take (length ss) ss ≡ ss
-take-all [] = refl
-take-all (s ∷ ss) = ap (λ (l : List (List ℕ)). s ∷ l) (take-all ss)
+-- the answers fit, and so many are taken; or they do not, and none is
+module _ (x : Meaning) (s : List ℕ) (answers : List ℕ) (most : ℕ) {fits : Bool} (test : fits ≡ leb most (length answers / 4)) {due : ℕ} (dues : due ≡ cond fits most 0) where
+  short-by : (b : Bool) → leb most (length answers / 4) ≡ b → ltb (length answers) (4 * most) ≡ not b
+  short-by true e = le-ltb (length answers) (4 * most) (omega (arith, leb-true most (length answers / 4) e))
+  short-by false e = lt-ltb (length answers) (4 * most) (omega (arith, leb-false most (length answers / 4) e))
 
-length-packets : (single : Bool) (s : List ℕ) → length (packetsOf single s) ≡ length (framesOf single s)
-length-packets single s = length-map (framesOf single s) (bytesAt s)
+  pub short : ltb (length answers) (4 * most) ≡ not fits
+  short = short-by (leb most (length answers / 4)) refl ∙ ap not (sym test)
 
-module _ (x : Meaning) (single : Bool) (s : List ℕ) (answers : List ℕ) {n : ℕ} (all : n ≡ length (framesOf single s)) where
-  pub packets-are : length (packetsOf single s) ≡ n
-  packets-are = length-packets single s ∙ sym all
+  due-by : (b : Bool) → fits ≡ b → due ≡ cond b most 0
+  due-by b e = dues ∙ ap (λ (c : Bool). cond c most 0) e
 
-  -- the answers fit, and all are taken; or they do not, and none is
-  module _ {fits : Bool} (test : fits ≡ leb n (length answers / 4)) {due : ℕ} (dues : due ≡ cond fits n 0) where
-    short-by : (b : Bool) → leb n (length answers / 4) ≡ b → ltb (length answers) (4 * length (packetsOf single s)) ≡ not b
-    short-by true e = le-ltb (length answers) (4 * length (packetsOf single s)) (omega (arith, packets-are, leb-true n (length answers / 4) e))
-    short-by false e = lt-ltb (length answers) (4 * length (packetsOf single s)) (omega (arith, packets-are, leb-false n (length answers / 4) e))
+  pub burst-runs : length answers ≤ 18446744073709551615 → Runs due (length answers)
+  burst-runs big = go fits refl
+    where
+      go : (b : Bool) → fits ≡ b → Runs due (length answers)
+      go true e = record { room = omega (arith, due-by true e, leb-true most (length answers / 4) (sym test ∙ e)); big = big }
+      go false e = record { room = omega (arith, due-by false e); big = big }
 
-    pub short : ltb (length answers) (4 * length (packetsOf single s)) ≡ not fits
-    short = short-by (leb n (length answers / 4)) refl ∙ ap not (sym test)
+  -- what comes of those that are due, and where none is what stands there already
+  pub chosen : {A : Type 0} (after : ℕ → A) {none : A} → after 0 ≡ none → after due ≡ cond (ltb (length answers) (4 * most)) none (after most)
+  chosen {A} after {none} nothing = go fits refl
+    where
+      go : (b : Bool) → fits ≡ b → after due ≡ cond (ltb (length answers) (4 * most)) none (after most)
+      go true e = ap after (due-by true e) ∙ sym (ap (λ (c : Bool). cond c none (after most)) (short ∙ ap not e))
+      go false e = ap after (due-by false e) ∙ nothing ∙ sym (ap (λ (c : Bool). cond c none (after most)) (short ∙ ap not e))
 
-    due-by : (b : Bool) → fits ≡ b → take due (packetsOf single s) ≡ cond b (packetsOf single s) []
-    due-by true e = ap (λ (k : ℕ). take k (packetsOf single s)) (dues ∙ ap (λ (c : Bool). cond c n 0) e ∙ sym packets-are) ∙ take-all (packetsOf single s)
-    due-by false e = ap (λ (k : ℕ). take k (packetsOf single s)) (dues ∙ ap (λ (c : Bool). cond c n 0) e)
+  pub burst-is : {after : Held} → after ≡ rep (takeAll overnight x (packetsIn due s)) → after ≡ rep (burstOf x s most (length answers))
+  unfolding burstOf takeAll packetsFrom
+  burst-is is = is ∙ ap rep (chosen (λ (n : ℕ). takeAll overnight x (packetsIn n s)) refl)
 
-    pub burst-runs : length answers ≤ 18446744073709551615 → Runs single s due (length answers)
-    burst-runs big = go fits refl
-      where
-        go : (b : Bool) → fits ≡ b → Runs single s due (length answers)
-        go true e =
-            let d : due ≡ n = dues ∙ ap (λ (c : Bool). cond c n 0) e in
-            record { all = omega (arith, d, all); room = omega (arith, d, leb-true n (length answers / 4) (sym test ∙ e)); big = big }
-        go false e = let d : due ≡ 0 = dues ∙ ap (λ (c : Bool). cond c n 0) e in record { all = omega (arith, d); room = omega (arith, d); big = big }
+  pub bytes-are : {at : ℕ} → at ≡ endFrom false due 0 s → at ≡ bytesOf s most (length answers)
+  unfolding bytesOf endFrom
+  bytes-are is = is ∙ chosen (λ (n : ℕ). endFrom false n 0 s) refl
 
-    pub burst-is : {after : Held} → after ≡ rep (takeAll overnight x (take due (packetsOf single s))) → after ≡ rep (burstOf x (packetsOf single s) (length answers))
-    unfolding burstOf takeAll
-    burst-is {after} is = go fits refl
-      where
-        chosen : (b : Bool) → Held
-        chosen b = rep (cond b x (takeAll overnight x (packetsOf single s)))
+  pub rows-are : {after : List ℕ} → after ≡ splice answers 0 (rowsOf x (packetsIn due s)) → after ≡ answersAfter x s most answers
+  unfolding answersAfter rowsOf packetsFrom
+  rows-are is = is ∙ chosen (λ (n : ℕ). splice answers 0 (rowsOf x (packetsIn n s))) (splice-none answers 0)
 
-        go : (b : Bool) → fits ≡ b → after ≡ chosen (ltb (length answers) (4 * length (packetsOf single s)))
-        go true e = is ∙ ap (λ (ps : List (List ℕ)). rep (takeAll overnight x ps)) (due-by true e) ∙ sym (ap chosen (short ∙ ap not e))
-        go false e = is ∙ ap (λ (ps : List (List ℕ)). rep (takeAll overnight x ps)) (due-by false e) ∙ sym (ap chosen (short ∙ ap not e))
+  pub count-is : {taken : ℕ} {told : Count} → taken ≡ length (packetsIn due s) → told ≡ countIf fits taken → told ≡ countOf s most (length answers)
+  unfolding countOf
+  count-is {taken} {told} is counts = go fits refl
+    where
+      go : (b : Bool) → fits ≡ b → told ≡ cond (ltb (length answers) (4 * most)) (count.Refused 11) (count.Packets (length (packetsIn most s)))
+      go true e = counts ∙ (λ i. countIf (e i) (is i)) ∙ ap (λ (n : ℕ). count.Packets (length (packetsIn n s))) (due-by true e) ∙ sym (ap (λ (b : Bool). cond b (count.Refused 11) (count.Packets (length (packetsIn most s)))) (short ∙ ap not e))
+      go false e = counts ∙ ap (λ (b : Bool). countIf b taken) e ∙ sym (ap (λ (b : Bool). cond b (count.Refused 11) (count.Packets (length (packetsIn most s)))) (short ∙ ap not e))
 
-    pub count-is : {told : Count} → told ≡ countIf fits n → told ≡ countOf (packetsOf single s) (length answers)
-    unfolding countOf
-    count-is {told} counts = go fits refl
-      where
-        chosen : (b : Bool) → Count
-        chosen b = cond b (count.Refused 11) (count.Packets (length (packetsOf single s)))
-
-        go : (b : Bool) → fits ≡ b → told ≡ chosen (ltb (length answers) (4 * length (packetsOf single s)))
-        go true e = counts ∙ ap (λ (b : Bool). countIf b n) e ∙ ap count.Packets (sym packets-are) ∙ sym (ap chosen (short ∙ ap not e))
-        go false e = counts ∙ ap (λ (b : Bool). countIf b n) e ∙ sym (ap chosen (short ∙ ap not e))
-
-    pub rows-are : {after : List ℕ} → after ≡ splice answers 0 (rowsOf (x) (take due (packetsOf single s))) → after ≡ answersAfter (x) (packetsOf single s) answers
-    unfolding answersAfter rowsOf
-    rows-are {after} is = go fits refl
-      where
-        chosen : (b : Bool) → List ℕ
-        chosen b = cond b answers (splice answers 0 (rowsOf (x) (packetsOf single s)))
-
-        go : (b : Bool) → fits ≡ b → after ≡ chosen (ltb (length answers) (4 * length (packetsOf single s)))
-        go true e = is ∙ ap (λ (ps : List (List ℕ)). splice answers 0 (rowsOf (x) ps)) (due-by true e) ∙ sym (ap chosen (short ∙ ap not e))
-        go false e = is ∙ ap (λ (ps : List (List ℕ)). splice answers 0 (rowsOf (x) ps)) (due-by false e) ∙ splice-none answers 0 ∙ sym (ap chosen (short ∙ ap not e))
-
-first-bytes : (n : ℕ) (ss : List (List ℕ)) → AllBytes ss → AllBytes (take n ss)
-first-bytes zero ss h = tt
-first-bytes (suc n) [] h = tt
-first-bytes (suc n) (s ∷ ss) h = (h .0, first-bytes n ss (h .1))
-
-pub rule-packets : {session : Held} → Ruled session → (single : Bool) (s : List ℕ) (n : ℕ) → Bytes s → {after : Held} → after ≡ rep (takeAll overnight (view session) (take n (packetsOf single s))) → Ruled after
-rule-packets rule single s n bytes e = rule-of e (ruled-more rule (take n (packetsOf single s)) (first-bytes n (packetsOf single s) (parts-bytes s bytes (framesOf single s))))
+pub rule-packets : {session : Held} → Ruled session → (single : Bool) (s : List ℕ) (n : ℕ) → Bytes s → {after : Held} → after ≡ rep (takeAll overnight (view session) (packetsFrom single n 0 s)) → Ruled after
+rule-packets rule single s n bytes e = rule-of e (ruled-more rule (packetsFrom single n 0 s) (packets-bytes single n 0 s bytes))
 
 -- ---- what is missing
 

@@ -5,35 +5,50 @@ use mathlib.Core.Bool.{Bool, true, false, cond}
 use mathlib.Core.List.{List, [], _∷_}
 use Prim.Native.Nat.{ℕ, _*_, _≤_, _<_}
 use lib.Dec.{ltb}
-use lib.ListN.{length}
 use Rattle.wire.specs.Number.{Bytes}
-use Rattle.merge.specs.State.{opened, takeAll}
+use Rattle.merge.specs.State.{opened, takeAll, takeOne}
 use Rattle.merge.specs.History.{Genuine, accepted, firstCopy, sentTables}
 use Rattle.merge.specs.Promise.{Demand3}
 use Rattle.merge.proofs.Hosts.{host-sent, hosts-agree, hosts-meet}
 use Rattle.window_taking.proofs.Accepted.{overnight-demand3}
-use Rattle.window_taking.specs.Turns.{burstFrom, packetsIn}
+use Rattle.window_taking.specs.Turns.{packetsIn}
 use Rattle.session.specs.Meaning.{AllBytes, Held, Meaning, feed, overnight, rep, view}
 use Rattle.session.specs.Bursts.{burstOf, handedIn}
-use Rattle.session.proofs.Calls.{parts-bytes}
-use Rattle.session.proofs.Given.{Given, bursting, opened-is, opening, taking, took-all-is, took-is}
+use Rattle.session.specs.Passing.{carriesAt, passOn, passedIn}
+use Rattle.session.proofs.Calls.{packets-bytes}
+use Rattle.session.proofs.Given.{Given, bursting, given-ruled, opened-is, opening, passed-over-is, passing, taking, took-all-is, took-is}
 use Rattle.session.proofs.States.{all-more, ruled-means, take-more}
 
 -- what a call hands in
-burst-session : (x : Meaning) (lent : List ℕ) (room : ℕ) → burstOf x (packetsIn lent) room ≡ takeAll overnight x (handedIn lent room)
+burst-session : (x : Meaning) (lent : List ℕ) (most room : ℕ) → burstOf x lent most room ≡ takeAll overnight x (handedIn lent most room)
 unfolding burstOf takeAll
-burst-session x lent room = go (ltb room (4 * length (packetsIn lent)))
+burst-session x lent most room = go (ltb room (4 * most))
   where
-    go : (b : Bool) → cond b x (takeAll overnight x (packetsIn lent)) ≡ takeAll overnight x (cond b [] (packetsIn lent))
+    go : (b : Bool) → cond b x (takeAll overnight x (packetsIn most lent)) ≡ takeAll overnight x (cond b [] (packetsIn most lent))
     go true = refl
     go false = refl
 
-handed-bytes : (lent : List ℕ) (room : ℕ) → Bytes lent → AllBytes (handedIn lent room)
-handed-bytes lent room bytes = go (ltb room (4 * length (packetsIn lent)))
+pass-session : (x : Meaning) (s : List ℕ) → passOn x s ≡ takeAll overnight x (passedIn x s)
+unfolding passOn takeAll
+pass-session x s = go (carriesAt (x .next) s)
   where
-    go : (b : Bool) → AllBytes (cond b [] (packetsIn lent))
+    go : (b : Bool) → cond b x (takeOne overnight x s) ≡ takeAll overnight x (cond b [] (s ∷ []))
+    go true = refl
+    go false = refl
+
+passed-bytes : (x : Meaning) (s : List ℕ) → Bytes s → AllBytes (passedIn x s)
+passed-bytes x s bytes = go (carriesAt (x .next) s)
+  where
+    go : (b : Bool) → AllBytes (cond b [] (s ∷ []))
     go true = tt
-    go false = parts-bytes lent bytes (burstFrom (length lent) 0 lent)
+    go false = (bytes, tt)
+
+handed-bytes : (lent : List ℕ) (most room : ℕ) → Bytes lent → AllBytes (handedIn lent most room)
+handed-bytes lent most room bytes = go (ltb room (4 * most))
+  where
+    go : (b : Bool) → AllBytes (cond b [] (packetsIn most lent))
+    go true = tt
+    go false = packets-bytes false most 0 lent bytes
 
 -- the meaning of a session that byte strings handed in have given
 means-by : {n : ℕ} → n ≤ 4294967295 → (handed : List (List ℕ)) {s : Held} → AllBytes handed → s ≡ rep (takeAll overnight (opened feed n) handed) → view s ≡ takeAll overnight (opened feed n) handed
@@ -48,13 +63,21 @@ given-by {n} small (taking {handed} {s} {t} {packet} g bytes call) =
       all-more handed (packet ∷ []) (h .0) (bytes, tt),
       took-is call ∙ ap (λ (x : Meaning). rep (takeAll overnight x (packet ∷ []))) (means-by small handed (h .0) (h .1)) ∙ ap rep (sym (take-more handed (packet ∷ []) (opened feed n))),
     )
-given-by {n} small (bursting {handed} {s} {t} {lent} {room} g bytes call) =
+given-by {n} small (bursting {handed} {s} {t} {lent} {most} {room} g bytes call) =
     let h = given-by small g in (
-      all-more handed (handedIn lent room) (h .0) (handed-bytes lent room bytes),
+      all-more handed (handedIn lent most room) (h .0) (handed-bytes lent most room bytes),
       took-all-is call
-          ∙ ap rep (burst-session (view s) lent room)
-          ∙ ap (λ (x : Meaning). rep (takeAll overnight x (handedIn lent room))) (means-by small handed (h .0) (h .1))
-          ∙ ap rep (sym (take-more handed (handedIn lent room) (opened feed n))),
+          ∙ ap rep (burst-session (view s) lent most room)
+          ∙ ap (λ (x : Meaning). rep (takeAll overnight x (handedIn lent most room))) (means-by small handed (h .0) (h .1))
+          ∙ ap rep (sym (take-more handed (handedIn lent most room) (opened feed n))),
+    )
+given-by {n} small (passing {handed} {s} {t} {packet} g bytes call) =
+    let h = given-by small g in (
+      all-more handed (passedIn (view s) packet) (h .0) (passed-bytes (view s) packet bytes),
+      passed-over-is (given-ruled g) call
+          ∙ ap rep (pass-session (view s) packet)
+          ∙ ap (λ (x : Meaning). rep (takeAll overnight x (passedIn (view s) packet))) (means-by small handed (h .0) (h .1))
+          ∙ ap rep (sym (take-more handed (passedIn (view s) packet) (opened feed n))),
     )
 
 -- the meaning of a given session

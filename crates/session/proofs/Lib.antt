@@ -11,3 +11,4 @@ pub mod Given
 pub mod Demand3
 pub mod Promises
 pub mod Ten
+pub mod Onward

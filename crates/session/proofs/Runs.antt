@@ -2,16 +2,15 @@
 -- Assumes nothing.
 use mathlib.Core.Path.{_≡_, refl, ap, ap₂, _∙_, sym, subst}
 use mathlib.Core.Bool.{Bool, true, false, cond, _&&_}
-use mathlib.Core.List.{List, [], _∷_, _++_, map}
+use mathlib.Core.List.{List, [], _∷_, _++_}
 use mathlib.Core.Logic.{by-cases}
 use mathlib.Core.Option.{Option, none, some, Option·none-ne-some}
 use Prim.Native.Nat.{ℕ, zero, suc, _+_, _-_, _*_, _%_, _≤_, _<_, min}
 use native.Mathlib.Decide.{decLt, ℕ-discrete}
 use native.Mathlib.Nat.{mod-lt}
 use native.Mathlib.Omega.{arith}
-use borrow.Author.Tests.{leb-true}
-use lib.Dec.{eqb, leb}
-use lib.ListN.{length, getD, take, set, length-set}
+use lib.Dec.{eqb}
+use lib.ListN.{length, getD, take, set}
 use lib.Seq.{length-take-le}
 use Rattle.wire.specs.Number.{Bytes, part, splice}
 use Rattle.wire.proofs.Place.{length-splice, part-bytes, splice-next, splice-none}
@@ -39,48 +38,15 @@ use Rattle.session_message.specs.Source.{Begins, Goes, Lies as InBytes, message
 use Rattle.session_message.specs.declared.Source.{Source}
 use Rattle.session_message.proofs.Choices.{freed-packet, freed-window, message-packet, message-window, onward-packet, onward-window, size-packet, size-window, text-packet, text-window}
 use Rattle.window_taking.specs.Keeping.{Known, Neat, admittedOf, countOf, heldBy, keptBy, keptIf, startsAt, stateOf, straightIn, waitingOf, windowFor}
-use Rattle.window_taking.specs.Taking.{bytesAt, judge, takeTests}
-use Rattle.window_taking.specs.Turns.{Closes, Follows, Lies, answerIf, atStart, behind, burstFrom, closing, frameAt, framesOf, lengthAt, packetAt, packetsOf, placeAfter, placeIf, turnOf}
+use Rattle.window_taking.specs.Taking.{judge, takeTests}
+use Rattle.window_taking.specs.Turns.{Closes, Follows, Lies, answerIf, atStart, behind, closing, doneIn, endFrom, frameAt, lengthAt, packetAt, packetsFrom, placeAfter, placeIf, turnOf}
 use Rattle.window_taking.specs.declared.burst.Turn.{Turn}
 use Rattle.window_taking.proofs.Ahead.{Ahead, ahead-of, freed, level-of}
+use Rattle.window_taking.proofs.Following.{Another, Ended, another, ended}
 use Rattle.window_taking.proofs.Windows.{fine, in-places, place-free, place-used, placed, same-window, waiting-for, waits-place, window-size}
 use Rattle.session.specs.Meaning.{Held, Meaning, endIn, feed, held, nextIn, overnight, rep, view, Ruled}
 use Rattle.session.specs.Bursts.{Runs, refusalOf, rowWith, rowsOf}
 use Rattle.session.proofs.States.{Good, Stands, good-kept, good-step, kept, meaning, neat, ready, stands, waits-below, within}
-
--- ---- the packets that are left lie one behind the other
-
-abbrev pub Rest : Bool → List ℕ → ℕ → List (ℕ × ℕ) → Type 0
-Rest single s at [] = Unit {0}
-Rest single s at (f ∷ fs) = Lies single s at × ((f ≡ (frameAt single s at .start, frameAt single s at .size)) × Rest single s (behind single s at) fs)
-
-burst-step : (n at : ℕ) (s : List ℕ) → Rest false s (at + 2 + lengthAt s at) (burstFrom n (at + 2 + lengthAt s at) s) → (b : Bool) → leb (at + 2 + lengthAt s at) (length s) ≡ b
-    → Rest false s at (cond b ((at + 2, lengthAt s at) ∷ burstFrom n (at + 2 + lengthAt s at) s) [])
-burst-step n at s more true e =
-    let h : at + 2 + lengthAt s at ≤ length s = leb-true (at + 2 + lengthAt s at) (length s) e in
-    (record { start = omega arith; within = h }, (refl, more))
-burst-step n at s more false e = tt
-
-burst-rest : (n at : ℕ) (s : List ℕ) → Rest false s at (burstFrom n at s)
-unfolding burstFrom
-burst-rest zero at s = tt
-burst-rest (suc n) at s = burst-step n at s (burst-rest n (at + 2 + lengthAt s at) s) (leb (at + 2 + lengthAt s at) (length s)) refl
-
-pub all-rest : (single : Bool) (s : List ℕ) → Rest single s 0 (framesOf single s)
-all-rest true s =
-    let e : length s ≡ length s - 0 = omega arith in
-    (record { start = omega arith; within = omega arith }, (ap (λ (n : ℕ). (0, n)) e, tt))
-all-rest false s = burst-rest (length s) 0 s
-
-pub rest-first : (n : ℕ) (single : Bool) (s : List ℕ) (at : ℕ) (l : List (ℕ × ℕ)) → Rest single s at l → Rest single s at (take n l)
-rest-first zero single s at l lie = tt
-rest-first (suc n) single s at [] lie = tt
-rest-first (suc n) single s at (f ∷ fs) lie = (lie .0, (lie .1 .0, rest-first n single s (behind single s at) fs (lie .1 .1)))
-
-take-map : (n : ℕ) (f : ℕ × ℕ → List ℕ) (l : List (ℕ × ℕ)) → take n (map f l) ≡ map f (take n l)
-take-map zero f l = refl
-take-map (suc n) f [] = refl
-take-map (suc n) f (x ∷ l) = ap (λ (k : List (List ℕ)). f x ∷ k) (take-map n f l)
 
 -- ---- a packet, on the window alone and on the whole session
 
@@ -167,11 +133,15 @@ module _ (x : Meaning) {w : List ℕ} {next end : ℕ} (g : Good x) (window : w 
 abbrev pub finish : Meaning → ℕ → ℕ → Meaning
 finish x before next = applyUpTo feed (before + 256 - next) x
 
--- the answers that are to come, from the one at hand on
-abbrev rowsFrom : Turn → List ℕ → Meaning → List (ℕ × ℕ) → List ℕ
-rowsFrom turn s z rest = answerIf (turn .begun) (rowWith (turn .before) (turn .refusal) z) ++ rowsOf z (map (bytesAt s) rest)
+-- the packets that are left
+abbrev restOf : Bool → List ℕ → Turn → List (List ℕ)
+restOf single s turn = packetsFrom single (turn .left) (turn .at) s
 
-pub record Open (all : Meaning) (written : List ℕ) (s : List ℕ) (single : Bool) (answers : List ℕ) (n₀ e₀ : ℕ) (os : List Order) (numbers w : List ℕ) (next : ℕ) (turn : Turn) (source : Source) : Type 0 where
+-- the answers that are to come, from the one at hand on
+abbrev rowsFrom : Turn → Meaning → List (List ℕ) → List ℕ
+rowsFrom turn z rest = answerIf (turn .begun) (rowWith (turn .before) (turn .refusal) z) ++ rowsOf z rest
+
+pub record Open (all : Meaning) (written : List ℕ) (s : List ℕ) (single : Bool) (count : ℕ) (answers : List ℕ) (n₀ e₀ : ℕ) (os : List Order) (numbers w : List ℕ) (next : ℕ) (turn : Turn) (source : Source) : Type 0 where
   pub state : Meaning
   pub good : Good state
   pub orders : os ≡ book.rep (state .tables) .orders
@@ -182,40 +152,37 @@ pub record Open (all : Meaning) (written : List ℕ) (s : List ℕ) (single : Bo
   pub end : turn .end ≡ state .end
   pub low : turn .before ≤ next
   pub near : (k : ℕ) → turn .before + 256 ≤ k → state .waiting k ≡ none
-  pub rest : List (ℕ × ℕ)
-  pub frames : Rest single s (turn .at) rest
-  pub left : turn .left ≡ length rest
-  pub session : all ≡ takeAll overnight (finish state (turn .before) next) (map (bytesAt s) rest)
-  pub rows : written ≡ splice answers (turn .place) (rowsFrom turn s (finish state (turn .before) next) rest)
+  pub within : turn .at ≤ length s
+  pub left : turn .left ≤ count
+  pub taken : length (packetsFrom single count 0 s) + turn .left ≡ count + length (restOf single s turn)
+  pub stop : endFrom single count 0 s ≡ endFrom single (turn .left) (turn .at) s
+  pub session : all ≡ takeAll overnight (finish state (turn .before) next) (restOf single s turn)
+  pub rows : written ≡ splice answers (turn .place) (rowsFrom turn (finish state (turn .before) next) (restOf single s turn))
   pub room : placeAfter turn + 4 * turn .left ≤ length answers
   pub big : length answers ≤ 18446744073709551615
 
+-- what a run gives
+abbrev pub Ends : Meaning → List ℕ → List ℕ → Bool → ℕ → Held → List ℕ → ℕ → ℕ → Type 0
+Ends all written s single count after answers taken at = (after ≡ rep all) × ((answers ≡ written) × ((taken ≡ length (packetsFrom single count 0 s)) × (at ≡ endFrom single count 0 s)))
+
 -- a packet is admitted
-module _ (all : Meaning) (written : List ℕ) (x : Meaning) (s : List ℕ) (single : Bool) (answers : List ℕ) (n₀ e₀ : ℕ) {os : List Order} {numbers w w′ : List ℕ} {next end at left place : ℕ} {turn : Turn}
+module _ (all : Meaning) (written : List ℕ) (x : Meaning) (s : List ℕ) (single : Bool) (count : ℕ) (answers : List ℕ) (n₀ e₀ : ℕ) {os : List Order} {numbers w w′ : List ℕ} {next end at left place : ℕ} {turn : Turn}
     (bytes : Bytes s) (g : Good x) (front : x .waiting (x .next) ≡ none)
     (orders : os ≡ book.rep (x .tables) .orders) (housed : numbers ≡ roomOf n₀ e₀ (book.rep (x .tables))) (window : w ≡ windowFor (x .waiting) (x .next)) (nexts : next ≡ x .next) (ends : end ≡ x .end)
-    (f : ℕ × ℕ) (fs : List (ℕ × ℕ)) (lie : Rest single s at (f ∷ fs)) (many : left ≡ length fs)
-    (session : all ≡ takeAll overnight x (map (bytesAt s) (f ∷ fs)))
-    (rows : written ≡ splice answers place (rowsOf x (map (bytesAt s) (f ∷ fs))))
+    (lie : Lies single s at) (fewer : left < count)
+    (many : length (packetsFrom single count 0 s) + left ≡ count + length (packetsFrom single left (behind single s at) s))
+    (stop : endFrom single count 0 s ≡ endFrom single left (behind single s at) s)
+    (session : all ≡ takeAll overnight x (packetAt single s at ∷ packetsFrom single left (behind single s at) s))
+    (rows : written ≡ splice answers place (rowsOf x (packetAt single s at ∷ packetsFrom single left (behind single s at) s)))
     (room : place + 4 + 4 * left ≤ length answers)
     (big : length answers ≤ 18446744073709551615)
     (turned : turn ≡ turnOf (stateOf w next end) single s at left place)
     (after : w′ ≡ windowFor (heldBy (stateOf w next end) (packetAt single s at) .waiting) next) where
-  p : List ℕ
-  p = packetAt single s at
-
-  same-packet : bytesAt s f ≡ packetAt single s at
-  same-packet = ap (bytesAt s) (lie .1 .0)
-
-  y : Meaning
-  y = keptBy x p
-
-  taken : takeOne overnight x (bytesAt s f) ≡ finish y (turn .before) next
-  unfolding p y
+  taken : takeOne overnight x (packetAt single s at) ≡ finish (keptBy x (packetAt single s at)) (turn .before) next
   taken =
       let before : turn .before ≡ next = ap (λ (t : Turn). t .before) turned in
       let c : turn .before + 256 - next ≡ 256 = omega arith in
-      ap (takeOne overnight x) same-packet ∙ take-kept x (packetAt single s at) front ∙ ap (λ (n : ℕ). applyUpTo feed n (keptBy x (packetAt single s at))) (sym c)
+      take-kept x (packetAt single s at) front ∙ ap (λ (n : ℕ). applyUpTo feed n (keptBy x (packetAt single s at))) (sym c)
 
   part-of : Bytes (packetAt single s at)
   part-of = part-bytes s (frameAt single s at .start) (frameAt single s at .size) bytes
@@ -240,11 +207,11 @@ module _ (all : Meaning) (written : List ℕ) (x : Meaning) (s : List ℕ) (sing
   led true e =
       let free : (k : ℕ) → x .waiting k ≡ none = nothing-waits (g .inv) (level-of x (packetAt single s at) e) in
       let is : w′ ≡ windowFor (x .waiting) (x .next) = after-held ∙ ap (λ (z : Meaning). windowFor (z .waiting) (x .next)) (held-by x (packetAt single s at) true e) in
-      let first = ahead-of x s (frameAt single s at .start) (frameAt single s at .size) (lie .0 .within) part-of free is e in
-      let count : countOf (judge x (packetAt single s at)) ≡ turn .direct = sym (direct-is ∙ ap (λ (c : Bool). cond c (countOf (judge x (packetAt single s at))) 0) e) in (
+      let first = ahead-of x s (frameAt single s at .start) (frameAt single s at .size) (lie .within) part-of free is e in
+      let counted : countOf (judge x (packetAt single s at)) ≡ turn .direct = sym (direct-is ∙ ap (λ (c : Bool). cond c (countOf (judge x (packetAt single s at))) 0) e) in (
         subst (λ (n : ℕ). Ahead s (turn .direct) (turn .from) n w′ (keptBy x (packetAt single s at) .waiting)) (sym (kept-next x (judge x (packetAt single s at)) .0))
             (subst (λ (n : ℕ). Ahead s (turn .direct) n (x .next) w′ (keptBy x (packetAt single s at) .waiting)) (sym from-is)
-            (subst (λ (n : ℕ). Ahead s n (frameAt single s at .start + min (frameAt single s at .size) 12) (x .next) w′ (keptBy x (packetAt single s at) .waiting)) count first)),
+            (subst (λ (n : ℕ). Ahead s n (frameAt single s at .start + min (frameAt single s at .size) 12) (x .next) w′ (keptBy x (packetAt single s at) .waiting)) counted first)),
         ap length is ∙ window-size (within g),
       )
   led false e =
@@ -255,14 +222,16 @@ module _ (all : Meaning) (written : List ℕ) (x : Meaning) (s : List ℕ) (sing
         ap length is ∙ window-size (within good),
       )
 
-  pub opens : Open all written s single answers n₀ e₀ os numbers w′ next turn (record { left = turn .direct; from = turn .from })
-  unfolding takeAll rowsOf p y Led
+  pub opens : Open all written s single count answers n₀ e₀ os numbers w′ next turn (record { left = turn .direct; from = turn .from })
+  unfolding takeAll rowsOf Led
   opens =
       let before : turn .before ≡ next = ap (λ (t : Turn). t .before) turned in
       let kn = kept-next x (judge x (packetAt single s at)) in
       let begun : turn .begun ≡ true = ap (λ (t : Turn). t .begun) turned in
-      let refusal : turn .refusal ≡ refusalOf x (bytesAt s f) =
-      ap (λ (t : Turn). t .refusal) turned ∙ state-refusal x g window nexts ends (packetAt single s at) ∙ ap (refusalOf x) (sym same-packet) in
+      let refusal : turn .refusal ≡ refusalOf x (packetAt single s at) = ap (λ (t : Turn). t .refusal) turned ∙ state-refusal x g window nexts ends (packetAt single s at) in
+      let lefts : left ≡ turn .left = sym (ap (λ (t : Turn). t .left) turned) in
+      let ats : behind single s at ≡ turn .at = sym (ap (λ (t : Turn). t .at) turned) in
+      let rests : packetsFrom single left (behind single s at) s ≡ restOf single s turn = λ i. packetsFrom single (lefts i) (ats i) s in
       let on = led (straightIn x (packetAt single s at)) refl in
       record {
         state = keptBy x (packetAt single s at);
@@ -275,14 +244,15 @@ module _ (all : Meaning) (written : List ℕ) (x : Meaning) (s : List ℕ) (sing
         end = ap (λ (t : Turn). t .end) turned ∙ state-end x g window nexts ends (packetAt single s at);
         low = omega arith;
         near = λ k l. good .inv .near k (omega (arith, kn .0));
-        rest = fs;
-        frames = subst (λ (n : ℕ). Rest single s n fs) (sym (ap (λ (t : Turn). t .at) turned)) (lie .1 .1);
-        left = ap (λ (t : Turn). t .left) turned ∙ many;
-        session = session ∙ ap (λ (z : Meaning). takeAll overnight z (map (bytesAt s) fs)) taken;
+        within = omega (arith, lie .within, ats);
+        left = omega (arith, fewer, lefts);
+        taken = omega (arith, many, lefts, ap length rests);
+        stop = stop ∙ (λ i. endFrom single (lefts i) (ats i) s);
+        session = session ∙ (λ i. takeAll overnight (taken i) (rests i));
         rows =
             rows
-            ∙ ap (λ (z : Meaning). splice answers place (rowWith (x .next) (refusalOf x (bytesAt s f)) z ++ rowsOf z (map (bytesAt s) fs))) taken
-            ∙ (λ i. splice answers (sym (ap (λ (t : Turn). t .place) turned) i) (answerIf (sym begun i) (rowWith (sym (before ∙ nexts) i) (sym refusal i) (finish (keptBy x (packetAt single s at)) (turn .before) next)) ++ rowsOf (finish (keptBy x (packetAt single s at)) (turn .before) next) (map (bytesAt s) fs)));
+            ∙ ap (λ (z : Meaning). splice answers place (rowWith (x .next) (refusalOf x (packetAt single s at)) z ++ rowsOf z (packetsFrom single left (behind single s at) s))) taken
+            ∙ (λ i. splice answers (sym (ap (λ (t : Turn). t .place) turned) i) (answerIf (sym begun i) (rowWith (sym (before ∙ nexts) i) (sym refusal i) (finish (keptBy x (packetAt single s at)) (turn .before) next)) ++ rowsOf (finish (keptBy x (packetAt single s at)) (turn .before) next) (rests i)));
         room = subst (λ (t : Turn). placeAfter t + 4 * t .left ≤ length answers) (sym turned) room;
         big = big;
       }
@@ -313,8 +283,8 @@ pub record Here (s : List ℕ) (source : Source) (size : ℕ) (text : List ℕ) 
   pub fewer : before + 256 - (next + 1) < before + 256 - next
 
 -- what waits at next, by the size where it lies
-module _ {all : Meaning} {written : List ℕ} {s : List ℕ} {single : Bool} {answers : List ℕ} {n₀ e₀ : ℕ} {os : List Order} {numbers w : List ℕ} {next : ℕ} {turn : Turn} {source : Source}
-    (o : Open all written s single answers n₀ e₀ os numbers w next turn source) where
+module _ {all : Meaning} {written : List ℕ} {s : List ℕ} {single : Bool} {count : ℕ} {answers : List ℕ} {n₀ e₀ : ℕ} {os : List Order} {numbers w : List ℕ} {next : ℕ} {turn : Turn} {source : Source}
+    (o : Open all written s single count answers n₀ e₀ os numbers w next turn source) where
   abbrev pub tabled : Book
   tabled = book.rep (o .state .tables)
 
@@ -375,59 +345,54 @@ module _ {all : Meaning} {written : List ℕ} {s : List ℕ} {single : Bool} {an
           go false = omega arith
 
       module _ {answers′ : List ℕ} (put : answers′ ≡ splice answers (turn .place) (closing turn next)) where
-        put-row : written ≡ splice answers′ (placeAfter turn) (rowsOf (o .state) (map (bytesAt s) (o .rest)))
+        put-row : written ≡ splice answers′ (placeAfter turn) (rowsOf (o .state) (restOf single s turn))
         put-row =
             o .rows
-            ∙ ap (λ (z : Meaning). splice answers (turn .place) (rowsFrom turn s z (o .rest))) settled
-            ∙ ap (λ (l : List ℕ). splice answers (turn .place) (l ++ rowsOf (o .state) (map (bytesAt s) (o .rest)))) (sym closed)
-            ∙ sym (splice-next answers (turn .place) (closing turn next) (rowsOf (o .state) (map (bytesAt s) (o .rest))) (omega (arith, closes .room, row-long)))
-            ∙ ap₂ (λ (l : List ℕ) (n : ℕ). splice l n (rowsOf (o .state) (map (bytesAt s) (o .rest)))) (sym put) row-long
+            ∙ ap (λ (z : Meaning). splice answers (turn .place) (rowsFrom turn z (restOf single s turn))) settled
+            ∙ ap (λ (l : List ℕ). splice answers (turn .place) (l ++ rowsOf (o .state) (restOf single s turn))) (sym closed)
+            ∙ sym (splice-next answers (turn .place) (closing turn next) (rowsOf (o .state) (restOf single s turn)) (omega (arith, closes .room, row-long)))
+            ∙ ap₂ (λ (l : List ℕ) (n : ℕ). splice l n (rowsOf (o .state) (restOf single s turn))) (sym put) row-long
 
         pub same-length : length answers′ ≡ length answers
         same-length = ap length put ∙ length-splice answers (turn .place) (closing turn next) (omega (arith, closes .room, row-long))
 
         -- the last one
-        pub ends : turn .left ≡ 0 → (held (record { orders = os }) (set (set numbers 0 next) 1 (turn .end)) w ≡ rep all) × (answers′ ≡ written)
-        unfolding takeAll rowsOf partsOf
-        ends last = go (o .rest) refl
-          where
-            go : (l : List (ℕ × ℕ)) → o .rest ≡ l → (held (record { orders = os }) (set (set numbers 0 next) 1 (turn .end)) w ≡ rep all) × (answers′ ≡ written)
-            go [] e =
-                let whole-run : all ≡ o .state = o .session ∙ ap₂ (λ (z : Meaning) (l : List (ℕ × ℕ)). takeAll overnight z (map (bytesAt s) l)) settled e in (
-                  (λ i. held (record { orders = o .orders i }) (set (set (o .housed i) 0 (o .at i)) 1 (o .end i)) (window i)) ∙ ap rep (sym whole-run),
-                  sym (put-row ∙ ap (λ (l : List (ℕ × ℕ)). splice answers′ (placeAfter turn) (rowsOf (o .state) (map (bytesAt s) l))) e ∙ splice-none answers′ (placeAfter turn)),
-                )
-            go (f ∷ fs) e = absurd (omega (arith, o .left, last, ap length e))
+        module _ (last : doneIn single s turn ≡ true) where
+          none-follows : Ended single s turn
+          none-follows = ended single s turn last
+
+          pub ends : Ends all written s single count (held (record { orders = os }) (set (set numbers 0 next) 1 (turn .end)) w) answers′ (count - turn .left) (turn .at)
+          unfolding takeAll rowsOf partsOf
+          ends =
+              let none-is : restOf single s turn ≡ [] = none-follows .packets in
+              let whole-run : all ≡ o .state = o .session ∙ ap₂ (takeAll overnight) settled none-is in
+              let written-all : answers′ ≡ written = sym (put-row ∙ ap (λ (l : List (List ℕ)). splice answers′ (placeAfter turn) (rowsOf (o .state) l)) none-is ∙ splice-none answers′ (placeAfter turn)) in
+              let many : count - turn .left ≡ length (packetsFrom single count 0 s) = omega (arith, o .taken, o .left, ap length none-is) in
+              ((λ i. held (record { orders = o .orders i }) (set (set (o .housed i) 0 (o .at i)) 1 (o .end i)) (window i)) ∙ ap rep (sym whole-run), (written-all, (many, sym (o .stop ∙ none-follows .end))))
 
         -- another one
-        module _ (other : turn .left ≡ 0 → ⊥) where
-          another : (l : List (ℕ × ℕ)) → o .rest ≡ l → l ≡ [] → ⊥
-          another l e z = other (o .left ∙ ap (λ (k : List (ℕ × ℕ)). length k) (e ∙ z))
+        module _ (other : doneIn single s turn ≡ false) where
+          one-follows : Another single s turn
+          one-follows = another single s turn other
 
           pub more : Follows single s turn
-          more = go (o .rest) refl (o .frames)
-            where
-              go : (l : List (ℕ × ℕ)) → o .rest ≡ l → Rest single s (turn .at) l → Follows single s turn
-              go [] e lie = absurd (another [] e refl)
-              go (f ∷ fs) e lie = record { left = omega (arith, o .left, ap length e); place = omega (arith, closes .room, o .big); lies = lie .0 }
+          more = record { left = one-follows .some; place = omega (arith, closes .room, o .big); lies = one-follows .lies }
 
           pub follows : {w′ : List ℕ} {turn′ : Turn} → Bytes s → turn′ ≡ turnOf (stateOf w next (turn .end)) single s (turn .at) (turn .left - 1) (placeAfter turn)
               → w′ ≡ windowFor (heldBy (stateOf w next (turn .end)) (packetAt single s (turn .at)) .waiting) next
-              → Open all written s single answers′ n₀ e₀ os numbers w′ next turn′ (record { left = turn′ .direct; from = turn′ .from })
-          follows {w′} {turn′} bytes turned after = go (o .rest) refl
-            where
-              go : (l : List (ℕ × ℕ)) → o .rest ≡ l → Open all written s single answers′ n₀ e₀ os numbers w′ next turn′ (record { left = turn′ .direct; from = turn′ .from })
-              go [] e = absurd (another [] e refl)
-              go (f ∷ fs) e =
-                  opens all written (o .state) s single answers′ n₀ e₀ bytes (o .good) front (o .orders) (o .housed) window (o .at) (o .end) f fs
-                  (subst (Rest single s (turn .at)) e (o .frames))
-                  (omega (arith, o .left, ap length e))
-                  (o .session ∙ ap₂ (λ (z : Meaning) (l : List (ℕ × ℕ)). takeAll overnight z (map (bytesAt s) l)) settled e)
-                  (put-row ∙ ap (λ (l : List (ℕ × ℕ)). splice answers′ (placeAfter turn) (rowsOf (o .state) (map (bytesAt s) l))) e)
-                  (omega (arith, o .room, o .left, same-length, ap length e))
-                  (omega (arith, o .big, same-length))
-                  turned
-                  after
+              → Open all written s single count answers′ n₀ e₀ os numbers w′ next turn′ (record { left = turn′ .direct; from = turn′ .from })
+          follows {w′} {turn′} bytes turned after =
+              opens all written (o .state) s single count answers′ n₀ e₀ bytes (o .good) front (o .orders) (o .housed) window (o .at) (o .end)
+              (one-follows .lies)
+              (omega (arith, o .left, one-follows .some))
+              (omega (arith, o .taken, one-follows .some, ap length (one-follows .packets)))
+              (o .stop ∙ one-follows .end)
+              (o .session ∙ ap₂ (takeAll overnight) settled (one-follows .packets))
+              (put-row ∙ ap (λ (l : List (List ℕ)). splice answers′ (placeAfter turn) (rowsOf (o .state) l)) (one-follows .packets))
+              (omega (arith, o .room, one-follows .some, same-length))
+              (omega (arith, o .big, same-length))
+              turned
+              after
 
     -- a message waits: it is applied
     module _ (used : size ≡ 0 → ⊥) (text : List ℕ) {text′ : List ℕ} (wide : length text ≡ 128) (fetched : text′ ≡ textAfter w text source (next % 256)) where
@@ -554,7 +519,7 @@ module _ {all : Meaning} {written : List ℕ} {s : List ℕ} {single : Bool} {an
           ))
 
       pub applied : {os′ : List Order} {numbers′ w′ : List ℕ} {source′ : Source} → os′ ≡ after tabled next m .orders → numbers′ ≡ roomOf n₀ e₀ (after tabled next m)
-          → w′ ≡ windowAfter w source (next % 256) → source′ ≡ onwardOf source size → Open all written s single answers n₀ e₀ os′ numbers′ w′ (next + 1) turn source′
+          → w′ ≡ windowAfter w source (next % 256) → source′ ≡ onwardOf source size → Open all written s single count answers n₀ e₀ os′ numbers′ w′ (next + 1) turn source′
       unfolding step moved Led′
       applied {os′} {numbers′} {w′} {source′} orders housed is on =
           let behind : after tabled next m ≡ book.rep (applyOf (o .state .tables) (o .state .next) m) = ap₂ (λ (t : Tables) (n : ℕ). book.rep (applyOf t n m)) (keeping.view-rep (o .state .tables)) (o .at) in
@@ -571,11 +536,12 @@ module _ {all : Meaning} {written : List ℕ} {s : List ℕ} {single : Bool} {an
             end = o .end;
             low = omega (arith, o .low);
             near = λ k l. freed-other (o .state) k (λ e. omega (arith, early, o .at)) ∙ o .near k l;
-            rest = o .rest;
-            frames = o .frames;
+            within = o .within;
             left = o .left;
-            session = o .session ∙ ap (λ (z : Meaning). takeAll overnight z (map (bytesAt s) (o .rest))) onward;
-            rows = o .rows ∙ ap (λ (z : Meaning). splice answers (turn .place) (rowsFrom turn s z (o .rest))) onward;
+            taken = o .taken;
+            stop = o .stop;
+            session = o .session ∙ ap (λ (z : Meaning). takeAll overnight z (restOf single s turn)) onward;
+            rows = o .rows ∙ ap (λ (z : Meaning). splice answers (turn .place) (rowsFrom turn z (restOf single s turn))) onward;
             room = o .room;
             big = o .big;
           }
@@ -604,9 +570,9 @@ bytes-of [] h = tt
 bytes-of (b ∷ s) h = (h 0, bytes-of s (λ i. h (suc i)))
 
 -- where the burst begins: no packet is at hand
-module _ {session : Held} (rule : Ruled session) (s : List ℕ) (single : Bool) {count : ℕ} (answers : List ℕ) (runs : Runs single s count (length answers)) where
+module _ {session : Held} (rule : Ruled session) (s : List ℕ) (single : Bool) {count : ℕ} (answers : List ℕ) (runs : Runs count (length answers)) where
   pub starts : {turn : Turn} → turn ≡ atStart (nextIn (session .room)) (endIn (session .room)) count
-      → Open (takeAll overnight (view session) (take count (packetsOf single s))) (splice answers 0 (rowsOf (view session) (take count (packetsOf single s)))) s single answers (nextIn (session .room)) (endIn (session .room)) (session .session .orders) (session .room) (session .window) (nextIn (session .room)) turn (record { left = 0; from = 0 })
+      → Open (takeAll overnight (view session) (packetsFrom single count 0 s)) (splice answers 0 (rowsOf (view session) (packetsFrom single count 0 s))) s single count answers (nextIn (session .room)) (endIn (session .room)) (session .session .orders) (session .room) (session .window) (nextIn (session .room)) turn (record { left = 0; from = 0 })
   unfolding partsOf
   starts {turn} turned =
       let h : Stands session = stands rule in
@@ -614,9 +580,9 @@ module _ {session : Held} (rule : Ruled session) (s : List ℕ) (single : Bool) 
       let nexts : nextIn (session .room) ≡ x .next = ap (λ (z : Held). nextIn (z .room)) (h .same) in
       let ends : endIn (session .room) ≡ x .end = ap (λ (z : Held). endIn (z .room)) (h .same) in
       let is : session .window ≡ windowFor (x .waiting) (x .next) = ap (λ (z : Held). z .window) (h .same) in
-      let first : List (ℕ × ℕ) = take count (framesOf single s) in
-      let packets : take count (packetsOf single s) ≡ map (bytesAt s) first = take-map count (bytesAt s) (framesOf single s) in
-      let many : length first ≡ count = length-take-le count (framesOf single s) (runs .all) in
+      let lefts : count ≡ turn .left = sym (ap (λ (t : Turn). t .left) turned) in
+      let ats : 0 ≡ turn .at = sym (ap (λ (t : Turn). t .at) turned) in
+      let packets : packetsFrom single count 0 s ≡ restOf single s turn = λ i. packetsFrom single (lefts i) (ats i) s in
       let before : turn .before ≡ nextIn (session .room) = ap (λ (t : Turn). t .before) turned in
       let done : x ≡ finish x (turn .before) (nextIn (session .room)) = sym (stuck feed (turn .before + 256 - nextIn (session .room)) (h .front)) in
       record {
@@ -630,20 +596,21 @@ module _ {session : Held} (rule : Ruled session) (s : List ℕ) (single : Bool) 
         end = ap (λ (t : Turn). t .end) turned ∙ ends;
         low = omega arith;
         near = λ k l. h .good .inv .near k (omega (arith, before, nexts));
-        rest = first;
-        frames = subst (λ (n : ℕ). Rest single s n first) (sym (ap (λ (t : Turn). t .at) turned)) (rest-first count single s 0 (framesOf single s) (all-rest single s));
-        left = ap (λ (t : Turn). t .left) turned ∙ sym many;
-        session = (λ i. takeAll overnight (meaning h i) (packets i)) ∙ ap (λ (z : Meaning). takeAll overnight z (map (bytesAt s) first)) done;
+        within = omega (arith, ats);
+        left = omega (arith, lefts);
+        taken = omega (arith, lefts, ap length packets);
+        stop = λ i. endFrom single (lefts i) (ats i) s;
+        session = (λ i. takeAll overnight (meaning h i) (packets i)) ∙ ap (λ (z : Meaning). takeAll overnight z (restOf single s turn)) done;
         rows =
             (λ i. splice answers 0 (rowsOf (meaning h i) (packets i)))
-            ∙ ap (λ (z : Meaning). splice answers 0 (rowsOf z (map (bytesAt s) first))) done
-            ∙ (λ i. splice answers (sym (ap (λ (t : Turn). t .place) turned) i) (answerIf (sym (ap (λ (t : Turn). t .begun) turned) i) (rowWith (turn .before) (turn .refusal) (finish x (turn .before) (nextIn (session .room)))) ++ rowsOf (finish x (turn .before) (nextIn (session .room))) (map (bytesAt s) first)));
+            ∙ ap (λ (z : Meaning). splice answers 0 (rowsOf z (restOf single s turn))) done
+            ∙ (λ i. splice answers (sym (ap (λ (t : Turn). t .place) turned) i) (answerIf (sym (ap (λ (t : Turn). t .begun) turned) i) (rowWith (turn .before) (turn .refusal) (finish x (turn .before) (nextIn (session .room)))) ++ rowsOf (finish x (turn .before) (nextIn (session .room))) (restOf single s turn)));
         room = subst (λ (t : Turn). placeAfter t + 4 * t .left ≤ length answers) (sym turned) (omega (arith, runs .room));
         big = runs .big;
       }
 
 -- what the loop keeps
-pub record Going (all : Meaning) (written : List ℕ) (s : List ℕ) (single : Bool) (answers₀ answers : List ℕ) (n₀ e₀ : ℕ) (os : List Order) (numbers w : List ℕ) (next : ℕ) (turn : Turn) (source : Source) (text : List ℕ) : Type 0 where
-  pub now : Open all written s single answers n₀ e₀ os numbers w next turn source
+pub record Going (all : Meaning) (written : List ℕ) (s : List ℕ) (single : Bool) (count : ℕ) (answers₀ answers : List ℕ) (n₀ e₀ : ℕ) (os : List Order) (numbers w : List ℕ) (next : ℕ) (turn : Turn) (source : Source) (text : List ℕ) : Type 0 where
+  pub now : Open all written s single count answers n₀ e₀ os numbers w next turn source
   pub wide : length text ≡ 128
   pub same : length answers ≡ length answers₀

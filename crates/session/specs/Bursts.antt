@@ -1,16 +1,15 @@
 -- Document 01, "Taking a packet": the answer to one packet, and the answers to several.
 -- Assumes nothing.
-use mathlib.Core.Path.{_≡_}
 use mathlib.Core.Bool.{Bool, true, false, cond}
-use mathlib.Core.List.{List, [], _∷_, _++_, map}
-use Prim.Native.Nat.{ℕ, zero, suc, _+_, _-_, _*_, _≤_}
-use lib.Dec.{eqb, leb, ltb}
+use mathlib.Core.List.{List, [], _∷_, _++_}
+use Prim.Native.Nat.{ℕ, _-_, _*_, _≤_}
+use lib.Dec.{eqb, ltb}
 use lib.ListN.{length}
 use Rattle.wire.specs.Number.{splice}
 use Rattle.merge.specs.State.{takeAll, takeOne}
 use Rattle.packet.specs.Header.{decided}
 use Rattle.window_taking.specs.Taking.{takeTests}
-use Rattle.window_taking.specs.Turns.{framesOf, packetsIn}
+use Rattle.window_taking.specs.Turns.{endFrom, packetsIn}
 use Rattle.session.specs.Meaning.{Meaning, overnight}
 use Rattle.session.specs.declared.packets.Answer.{Answer}
 use Rattle.session.specs.declared.packets.Answer.the-variants.{Applied, Refused}
@@ -35,9 +34,9 @@ answerOf x s = answered (appliedOf x s) (refusalOf x s)
 
 -- ---- a burst
 
--- the packets that a burst hands in: none where its list of answers is too short
-abbrev pub handedIn : List ℕ → ℕ → List (List ℕ)
-handedIn s room = cond (ltb room (4 * length (packetsIn s))) [] (packetsIn s)
+-- the packets that a burst hands in: as many as it says, if there are so many; none where its list of answers is too short
+abbrev pub handedIn : List ℕ → ℕ → ℕ → List (List ℕ)
+handedIn s most room = cond (ltb room (4 * most)) [] (packetsIn most s)
 
 -- four numbers answer a packet: how many were applied, the refusal, 0 where there is none, then next and end
 abbrev pub rowWith : ℕ → ℕ → Meaning → List ℕ
@@ -50,23 +49,26 @@ unfoldable pub rowsOf : Meaning → List (List ℕ) → List ℕ
 rowsOf x [] = []
 rowsOf x (s ∷ ss) = rowOf x s ++ rowsOf (takeOne overnight x s) ss
 
--- 11 exactly if the list is too short for the answers, nothing changed
-unfoldable pub burstOf : Meaning → List (List ℕ) → ℕ → Meaning
-burstOf x packets n = cond (ltb n (4 * length packets)) x (takeAll overnight x packets)
+-- 11 exactly if the list is too short for so many answers, nothing changed
+unfoldable pub burstOf : Meaning → List ℕ → ℕ → ℕ → Meaning
+burstOf x s most n = cond (ltb n (4 * most)) x (takeAll overnight x (packetsIn most s))
 
-unfoldable pub countOf : List (List ℕ) → ℕ → Count
-countOf packets n = cond (ltb n (4 * length packets)) (count.Refused 11) (count.Packets (length packets))
+unfoldable pub countOf : List ℕ → ℕ → ℕ → Count
+countOf s most n = cond (ltb n (4 * most)) (count.Refused 11) (count.Packets (length (packetsIn most s)))
 
-unfoldable pub answersAfter : Meaning → List (List ℕ) → List ℕ → List ℕ
-answersAfter x packets answers = cond (ltb (length answers) (4 * length packets)) answers (splice answers 0 (rowsOf x packets))
+-- how many bytes they are, with their lengths
+unfoldable pub bytesOf : List ℕ → ℕ → ℕ → ℕ
+bytesOf s most n = cond (ltb n (4 * most)) 0 (endFrom false most 0 s)
+
+unfoldable pub answersAfter : Meaning → List ℕ → ℕ → List ℕ → List ℕ
+answersAfter x s most answers = cond (ltb (length answers) (4 * most)) answers (splice answers 0 (rowsOf x (packetsIn most s)))
 
 -- the count, where the answers fit
 abbrev pub countIf : Bool → ℕ → Count
 countIf true n = count.Packets n
 countIf false n = count.Refused 11
 
--- what the engine asks for: so many packets are there, with room for their answers
-pub record Runs (single : Bool) (s : List ℕ) (count n : ℕ) : Type 0 where
-  pub all : count ≤ length (framesOf single s)
-  pub room : 4 * count ≤ n
+-- what the engine asks for: room for so many answers
+pub record Runs (most n : ℕ) : Type 0 where
+  pub room : 4 * most ≤ n
   pub big : n ≤ 18446744073709551615

@@ -2,7 +2,7 @@
 -- counts; the tables stay.
 -- Assumes nothing.
 use mathlib.Core.Bool.{Bool, cond, not, _&&_}
-use mathlib.Core.List.{List}
+use mathlib.Core.List.{List, [], _∷_}
 use Prim.Native.Nat.{ℕ, _+_}
 use lib.Dec.{eqb, leb, ltb}
 use lib.ListN.{length}
@@ -29,3 +29,7 @@ passedOf x s = cond (carriesAt (x .next) s) Carries (passedBy (decided (takeTest
 -- what is held behind it: all as it was, or what taking the packet gives
 unfoldable pub passOn : Meaning → List ℕ → Meaning
 passOn x s = cond (carriesAt (x .next) s) x (takeOne overnight x s)
+
+-- the packets that such a call hands in: none where it carries next
+abbrev pub passedIn : Meaning → List ℕ → List (List ℕ)
+passedIn x s = cond (carriesAt (x .next) s) [] (s ∷ [])

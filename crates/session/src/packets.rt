@@ -3,16 +3,13 @@ use crate::running::run;
 use crate::state::Session;
 use book_room::room::Room;
 use window::places::Window;
-use window_taking::burst::whole;
 ghost use mathlib.Core.Path.{_≡_};
 ghost use mathlib.Core.Bool.{cond};
 ghost use Prim.Native.Nat.{_≤_};
-ghost use lib.Dec.{eqb};
 ghost use lib.ListN.{length};
 ghost use Rattle.merge.specs.State.{takeOne};
 ghost use Rattle.session.specs.Meaning.{held, overnight, rep, view, Ruled};
-ghost use Rattle.window_taking.specs.Turns.{packetsIn};
-ghost use Rattle.session.specs.Bursts.{answerOf, burstOf, countIf, countOf, answersAfter, answered};
+ghost use Rattle.session.specs.Bursts.{answerOf, burstOf, bytesOf, countIf, countOf, answersAfter, answered};
 
 pub enum Answer {
     // How many messages were applied.
@@ -26,7 +23,7 @@ pub struct Taken {
 }
 
 pub enum Count {
-    // How many packets the burst had.
+    // How many packets were taken.
     Packets(usize),
     Refused(u8),
 }
@@ -34,6 +31,8 @@ pub enum Count {
 pub struct TakenAll {
     pub session: Session,
     pub count: Count,
+    // How many bytes they are, with their lengths: the next packet's begin behind them.
+    pub bytes: usize,
 }
 
 fn answer_by(applied: u64, refusal: u64) -> Answer
@@ -54,7 +53,8 @@ pub fn take(session: Session, room: &mut Room, window: &mut Window, packet: &[u8
     ensures rule { λ r. ⌜ Ruled (held (r .session) (now (room .exit)) (now (window .exit))) ⌝ }
 {
     let mut answers = [0u64; 4];
-    let after = run(session, room, window, packet, true, 1, &mut answers);
+    let ran = run(session, room, window, packet, true, 1, &mut answers);
+    let after = ran.session;
     let answer = answer_by(answers[0], answers[1]);
     Taken {
         session: after,
@@ -78,27 +78,31 @@ fn count_of(fits: bool, count: usize) -> Count
     Count::Refused(11)
 }
 
-// Several packets, each behind its length of 2 bytes. Four numbers answer each: how many messages
-// were applied, the refusal or 0, then next and end.
+// The first packets of the lent bytes, each behind its length of 2 bytes: as many as the host says, or
+// all that there are. Four numbers answer each: how many messages were applied, the refusal or 0, then
+// next and end. None is taken where the answers to so many do not fit.
 pub fn burst(
     session: Session,
     room: &mut Room,
     window: &mut Window,
     packets: &[u8],
+    count: usize,
     answers: &mut [u64],
 ) -> TakenAll
     requires { ⌜ Ruled (held session (now room) (now window)) ⌝ }
-    ensures taken { λ r. ⌜ held (r .session) (now (room .exit)) (now (window .exit)) ≡ rep (burstOf (view (held session (now (room .entry)) (now (window .entry)))) (packetsIn (now (packets .entry))) (length (now (answers .entry)))) ⌝ }
-    ensures count { λ r. ⌜ r .count ≡ countOf (packetsIn (now (packets .entry))) (length (now (answers .entry))) ⌝ }
-    ensures answers { λ r. ⌜ now (answers .exit) ≡ answersAfter (view (held session (now (room .entry)) (now (window .entry)))) (packetsIn (now (packets .entry))) (now (answers .entry)) ⌝ }
+    ensures taken { λ r. ⌜ held (r .session) (now (room .exit)) (now (window .exit)) ≡ rep (burstOf (view (held session (now (room .entry)) (now (window .entry)))) (now (packets .entry)) count (length (now (answers .entry)))) ⌝ }
+    ensures count { λ r. ⌜ r .count ≡ countOf (now (packets .entry)) count (length (now (answers .entry))) ⌝ }
+    ensures bytes { λ r. ⌜ r .bytes ≡ bytesOf (now (packets .entry)) count (length (now (answers .entry))) ⌝ }
+    ensures answers { λ r. ⌜ now (answers .exit) ≡ answersAfter (view (held session (now (room .entry)) (now (window .entry)))) (now (packets .entry)) count (now (answers .entry)) ⌝ }
     ensures rule { λ r. ⌜ Ruled (held (r .session) (now (room .exit)) (now (window .exit))) ⌝ }
 {
-    let count = whole(packets);
     let fits = count <= answers.len() / 4;
     let due = due_of(fits, count);
-    let after = run(session, room, window, packets, false, due, answers);
+    let ran = run(session, room, window, packets, false, due, answers);
+    let after = ran.session;
     TakenAll {
         session: after,
-        count: count_of(fits, count),
+        count: count_of(fits, ran.taken),
+        bytes: ran.at,
     }
 }

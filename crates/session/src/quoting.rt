@@ -7,8 +7,7 @@ use book::asking::good_question;
 use book::asking::join;
 use book::asking::no_level;
 use book::asking::reply_with;
-use book::lookup::back;
-use book::lookup::front;
+use book::lookup::parts_of;
 use book_room::room::LIVE;
 use book_room::room::Room;
 ghost use mathlib.Core.Path.{_≡_};
@@ -69,14 +68,13 @@ pub fn quotes(session: Session, room: &Room, asked: &[u8], replies: &mut [u64]) 
         let symbol = wire::text14_at(asked, at);
         let side = asked[at + 14];
         let good = good_question(symbol, side);
-        let first = front(symbol);
-        let last = back(symbol);
+        let parts = parts_of(symbol);
         let mut level = no_level();
         let mut j = due(good, live);
         while 0 < j {
             j -= 1;
             let order = session.orders[j];
-            level = join(first, last, side, order, level);
+            level = join(parts, side, order, level);
         }
         put(replies, REPLY * k, reply_with(good, level));
         k += 1;

@@ -17,18 +17,26 @@ use session_message::Source;
 use window::places::NUMBERS;
 use window::places::Window;
 use window_taking::burst::close;
+use window_taking::burst::done;
 use window_taking::burst::follow;
 use window_taking::burst::start;
 ghost use mathlib.Core.Path.{_≡_};
-ghost use lib.ListN.{length, take};
+ghost use lib.ListN.{length};
 ghost use Rattle.wire.specs.Number.{splice};
 ghost use Rattle.merge.specs.State.{takeAll};
 ghost use Rattle.session.specs.Meaning.{held, overnight, rep, view, Ruled};
-ghost use Rattle.window_taking.specs.Turns.{packetsOf};
+ghost use Rattle.window_taking.specs.Turns.{endFrom, packetsFrom};
 ghost use Rattle.session.specs.Bursts.{rowsOf, Runs};
 
-// So many packets of the lent bytes, one after the other: each is kept, then all is applied that can
-// be. Where nothing waits, a packet's messages are applied straight from it.
+// Where a run ends: how many packets it took, and where the bytes behind them begin.
+pub struct Ran {
+    pub session: Session,
+    pub taken: usize,
+    pub at: usize,
+}
+
+// So many packets of the lent bytes, or all that there are, one after the other: each is kept, then all
+// is applied that can be. Where nothing waits, a packet's messages are applied straight from it.
 pub fn run(
     mut session: Session,
     room: &mut Room,
@@ -37,11 +45,13 @@ pub fn run(
     single: bool,
     count: usize,
     answers: &mut [u64],
-) -> Session
+) -> Ran
     requires { ⌜ Ruled (held session (now room) (now window)) ⌝ }
-    requires { ⌜ Runs single (now packets) count (length (now answers)) ⌝ }
-    ensures held { λ r. ⌜ held r (now (room .exit)) (now (window .exit)) ≡ rep (takeAll overnight (view (held session (now (room .entry)) (now (window .entry)))) (take count (packetsOf single (now (packets .entry))))) ⌝ }
-    ensures answers { λ r. ⌜ now (answers .exit) ≡ splice (now (answers .entry)) 0 (rowsOf (view (held session (now (room .entry)) (now (window .entry)))) (take count (packetsOf single (now (packets .entry))))) ⌝ }
+    requires { ⌜ Runs count (length (now answers)) ⌝ }
+    ensures held { λ r. ⌜ held (r .session) (now (room .exit)) (now (window .exit)) ≡ rep (takeAll overnight (view (held session (now (room .entry)) (now (window .entry)))) (packetsFrom single count 0 (now (packets .entry)))) ⌝ }
+    ensures answers { λ r. ⌜ now (answers .exit) ≡ splice (now (answers .entry)) 0 (rowsOf (view (held session (now (room .entry)) (now (window .entry)))) (packetsFrom single count 0 (now (packets .entry)))) ⌝ }
+    ensures taken { λ r. ⌜ r .taken ≡ length (packetsFrom single count 0 (now (packets .entry))) ⌝ }
+    ensures at { λ r. ⌜ r .at ≡ endFrom single count 0 (now (packets .entry)) ⌝ }
 {
     let digits = digits::table();
     let mut next = room[NEXT];
@@ -54,10 +64,14 @@ pub fn run(
         let size = session_message::size(window, packets, here, place);
         if size == 0 {
             close(answers, turn, next);
-            if turn.left == 0 {
+            if done(packets, single, turn) {
                 room[NEXT] = next;
                 room[END] = turn.end;
-                return session;
+                return Ran {
+                    session,
+                    taken: count - turn.left,
+                    at: turn.at,
+                };
             }
             turn = follow(window, packets, single, turn, next);
             source = Source {

@@ -8,6 +8,6 @@ pub mod Differs
 pub mod Admits
 pub mod Ahead
 pub mod Passing
-pub mod Counting
+pub mod Following
 pub mod Frames
 pub mod Ten

@@ -1,13 +1,12 @@
 -- Parts of a burst: where a packet lies, and the turn that it is given.
 -- Assumes nothing.
 use mathlib.Core.Bool.{Bool, true, false, cond}
-use mathlib.Core.List.{List, [], _∷_, map}
+use mathlib.Core.List.{List, [], _∷_}
 use Prim.Native.Nat.{ℕ, zero, suc, _+_, _-_, _≤_, min}
-use lib.Dec.{leb}
+use lib.Dec.{eqb, ltb}
 use lib.ListN.{length}
 use Rattle.wire.specs.Number.{num, part}
 use Rattle.merge.specs.State as merge
-use Rattle.window_taking.specs.Taking.{bytesAt}
 use Rattle.window_taking.specs.Keeping.{admittedOf}
 use Rattle.window_taking.specs.declared.burst.Frame.{Frame}
 use Rattle.window_taking.specs.declared.burst.Turn.{Turn}
@@ -27,23 +26,23 @@ packetAt single s at = part s (frameAt single s at .start) (frameAt single s at 
 abbrev pub behind : Bool → List ℕ → ℕ → ℕ
 behind single s at = frameAt single s at .start + frameAt single s at .size
 
--- the whole packets of a burst from a place on, each behind its length: where each starts and how many bytes it has.
--- At most n are looked for
-unfoldable pub burstFrom : ℕ → ℕ → List ℕ → List (ℕ × ℕ)
-burstFrom zero at s = []
-burstFrom (suc n) at s =
-    cond (leb (behind false s at) (length s)) ((frameAt false s at .start, frameAt false s at .size) ∷ burstFrom n (behind false s at) s) []
+-- the bytes end before the packet at a place does
+abbrev pub cutAt : Bool → List ℕ → ℕ → Bool
+cutAt single s at = ltb (length s) (behind single s at)
 
--- lent bytes as one packet, or as a burst
-abbrev pub framesOf : Bool → List ℕ → List (ℕ × ℕ)
-framesOf true s = (0, length s) ∷ []
-framesOf false s = burstFrom (length s) 0 s
+-- the whole packets from a place on, one behind the other, at most n
+unfoldable pub packetsFrom : Bool → ℕ → ℕ → List ℕ → List (List ℕ)
+packetsFrom single zero at s = []
+packetsFrom single (suc n) at s = cond (cutAt single s at) [] (packetAt single s at ∷ packetsFrom single n (behind single s at) s)
 
-abbrev pub packetsOf : Bool → List ℕ → List (List ℕ)
-packetsOf single s = map (bytesAt s) (framesOf single s)
+-- where they end
+unfoldable pub endFrom : Bool → ℕ → ℕ → List ℕ → ℕ
+endFrom single zero at s = at
+endFrom single (suc n) at s = cond (cutAt single s at) at (endFrom single n (behind single s at) s)
 
-abbrev pub packetsIn : List ℕ → List (List ℕ)
-packetsIn s = packetsOf false s
+-- the first n whole packets of a burst, each behind its length, or all that there are
+abbrev pub packetsIn : ℕ → List ℕ → List (List ℕ)
+packetsIn n s = packetsFrom false n 0 s
 
 -- a packet lies in the bytes
 pub record Lies (single : Bool) (s : List ℕ) (at : ℕ) : Type 0 where
@@ -101,6 +100,10 @@ placeAfter turn = placeIf (turn .begun) (turn .place)
 pub record Closes (turn : Turn) (next n : ℕ) : Type 0 where
   pub low : turn .before ≤ next
   pub room : placeAfter turn ≤ n
+
+-- none follows: no more are asked for, or the bytes end
+abbrev pub doneIn : Bool → List ℕ → Turn → Bool
+doneIn single s turn = cond (eqb (turn .left) 0) true (cutAt single s (turn .at))
 
 -- what the next packet's turn asks for
 pub record Follows (single : Bool) (s : List ℕ) (turn : Turn) : Type 0 where

@@ -7,7 +7,7 @@ ghost use Prim.Native.Nat.{_+_, _-_, _≤_, min};
 ghost use lib.ListN.{length};
 ghost use Rattle.wire.specs.Number.{splice};
 ghost use Rattle.window_taking.specs.Keeping.{stateOf, windowFor, heldBy, Known, Neat};
-ghost use Rattle.window_taking.specs.Turns.{frameAt, framesOf, packetAt, turnOf, atStart, closing, placeAfter, Lies, Closes, Follows};
+ghost use Rattle.window_taking.specs.Turns.{frameAt, packetAt, turnOf, atStart, closing, placeAfter, doneIn, Lies, Closes, Follows};
 
 // Where a burst is: whether a packet is at hand; how many follow; where the next one's bytes begin;
 // where the answer at hand goes; and of the packet at hand, next before it, its refusal, end behind it,
@@ -38,26 +38,6 @@ fn framed(s: &[u8], at: usize) -> Frame
     Frame {
         start: at + 2,
         size,
-    }
-}
-
-// How many whole packets a burst has.
-pub fn whole(s: &[u8]) -> usize
-    ensures { λ r. ⌜ r ≡ length (framesOf false (now (s .entry))) ⌝ }
-{
-    let mut at: usize = 0;
-    let mut n: usize = 0;
-    loop {
-        let left = s.len() - at;
-        if left < 2 {
-            return n;
-        }
-        let frame = framed(s, at);
-        if left - 2 < frame.size {
-            return n;
-        }
-        at = frame.start + frame.size;
-        n += 1;
     }
 }
 
@@ -147,6 +127,26 @@ fn after(turn: Turn) -> usize
     } else {
         turn.place
     }
+}
+
+// Whether none follows the packet at hand: no more are asked for, or the bytes left are no whole one.
+pub fn done(s: &[u8], single: bool, turn: Turn) -> bool
+    requires { ⌜ turn .at ≤ length (now s) ⌝ }
+    ensures { λ r. ⌜ r ≡ doneIn single (now (s .entry)) turn ⌝ }
+{
+    if turn.left == 0 {
+        return true;
+    }
+    if single {
+        return false;
+    }
+    let at = turn.at;
+    let left = s.len() - at;
+    if left < 2 {
+        return true;
+    }
+    let frame = framed(s, at);
+    left - 2 < frame.size
 }
 
 // The packet behind the one at hand.

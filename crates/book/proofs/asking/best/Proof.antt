@@ -6,31 +6,31 @@ use mathlib.Core.List.{List}
 use Prim.Native.Nat.{ℕ, _≤_}
 use native.Mathlib.Omega.{arith}
 use borrow.Author.Needs.{needs}
-use Rattle.book.specs.Lookup.{frontOf, backOf}
+use Rattle.book.specs.Lookup.{Apart}
 use Rattle.book.proofs.Answers.{Going, best-all, best-reply, best-room, best-start, best-step, due-few}
 use Rattle.book.proofs.asking.best.Proof.Points as to
 use Rattle.book.proofs.asking.best.Statement.{statement}
 use Rattle.book.proofs.asking.best.Tie as tie
 
 abbrev Inv-loop : tie.InvT-loop
-Inv-loop live side orders good first last level₀ k₀ level k =
-    (symbol : List ℕ) → first ≡ frontOf symbol → last ≡ backOf symbol → Going symbol side orders k₀ k level
+Inv-loop live side orders good parts level₀ k₀ level k =
+    (symbol : List ℕ) → Apart symbol parts → Going symbol side orders k₀ k level
 
 abbrev μ-loop : tie.MeasureT-loop
-μ-loop live side orders good first last level₀ k₀ level k = k
+μ-loop live side orders good parts level₀ k₀ level k = k
 
 few : (c : tie.After-due Inv-loop μ-loop) → c .due .result ≤ 256
 few c = due-few (to.good-question-from-due c .good-question .result) (c .due .ensures) (to.entry-from-due c .pre .0)
 
 going : (c : tie.At-loop Inv-loop μ-loop) → Going (to.entry-from-loop c .args .symbol) (to.entry-from-loop c .args .side) (to.entry-from-loop c .args .t1) (to.due-from-loop c .due .result) (c .loop .k) (c .loop .level)
-going c = c .loop .inv _ (to.front-from-loop c .front .ensures) (to.back-from-loop c .back .ensures)
+going c = c .loop .inv _ (to.parts-of-from-loop c .parts-of .ensures)
 
 loop-holds : tie.Need-loop-holds Inv-loop μ-loop
-loop-holds c symbol f b = best-start symbol _ _ (few c) (to.entry-from-due c .pre .1) (to.no-level-from-due c .no-level .ensures)
+loop-holds c symbol p = best-start symbol _ _ (few c) (to.entry-from-due c .pre .1) (to.no-level-from-due c .no-level .ensures)
 
 loop-again : tie.Need-loop-again Inv-loop μ-loop
-loop-again c symbol f b =
-    best-step symbol _ _ (few (to.due-from-join c)) (to.entry-from-join c .pre .1) (to.loop-from-join c .loop .inv symbol f b) (to.in-loop-from-join c .loop-test .taken) (c .join .ensures symbol f b)
+loop-again c symbol p =
+    best-step symbol _ _ (few (to.due-from-join c)) (to.entry-from-join c .pre .1) (to.loop-from-join c .loop .inv symbol p) (to.in-loop-from-join c .loop-test .taken) (c .join .ensures symbol p)
 
 within : (c : tie.In-loop Inv-loop μ-loop) → to.loop-from-in-loop c .loop .k ≤ 256
 within c = omega (arith, going (to.loop-from-in-loop c) .within, few (to.due-from-in-loop c))
@@ -47,7 +47,6 @@ best-spec =
     (tie.spec
     Inv-loop
     μ-loop
-    (λ c κs. search needs)
     (λ c κs. search needs)
     (λ c κs. search needs)
     (λ c κs. search needs)

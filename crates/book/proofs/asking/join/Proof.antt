@@ -44,19 +44,19 @@ most-of : (c : tie.Start) → c .args .order .shares ≤ 4294967295
 most-of c = omega arith
 
 returns : tie.Need-returns
-returns c symbol f b = record { same = other _ _ _ _ (sym (to.belongs-from-then1 c .belongs .ensures symbol f b) ∙ not-true _ (c .if1 .taken)); most = most-of (to.entry-from-then1 c) }
+returns c symbol p = record { same = other _ _ _ _ (sym (to.belongs-from-then1 c .belongs .ensures symbol p) ∙ not-true _ (c .if1 .taken)); most = most-of (to.entry-from-then1 c) }
 
 returns-2 : tie.Need-returns-2
-returns-2 c symbol f b = record { same = first _ _ _ _ (sym (to.belongs-from-then2 c .belongs .ensures symbol f b) ∙ not-false _ (to.else1-from-then2 c .if1 .left)) (c .if2 .taken); most = most-of (to.entry-from-then2 c) }
+returns-2 c symbol p = record { same = first _ _ _ _ (sym (to.belongs-from-then2 c .belongs .ensures symbol p) ∙ not-false _ (to.else1-from-then2 c .if1 .left)) (c .if2 .taken); most = most-of (to.entry-from-then2 c) }
 
 returns-3 : tie.Need-returns-3
-returns-3 c symbol f b = record { same = ahead _ _ _ _ (sym (to.belongs-from-then3 c .belongs .ensures symbol f b) ∙ not-false _ (to.else1-from-then3 c .if1 .left)) (to.else2-from-then3 c .if2 .left) (sym (to.better-from-then3 c .better .ensures) ∙ c .if3 .taken); most = most-of (to.entry-from-then3 c) }
+returns-3 c symbol p = record { same = ahead _ _ _ _ (sym (to.belongs-from-then3 c .belongs .ensures symbol p) ∙ not-false _ (to.else1-from-then3 c .if1 .left)) (to.else2-from-then3 c .if2 .left) (sym (to.better-from-then3 c .better .ensures) ∙ c .if3 .taken); most = most-of (to.entry-from-then3 c) }
 
 returns-4 : tie.Need-returns-4
-returns-4 c symbol f b = record { same = even _ _ _ _ (sym (to.belongs-from-struct-known7 c .belongs .ensures symbol f b) ∙ not-false _ (to.else1-from-struct-known7 c .if1 .left)) (to.else2-from-struct-known7 c .if2 .left) (sym (to.better-from-struct-known7 c .better .ensures) ∙ to.else3-from-struct-known7 c .if3 .left) (to.then4-from-struct-known7 c .if4 .taken); most = most-of (to.entry-from-struct-known7 c) }
+returns-4 c symbol p = record { same = even _ _ _ _ (sym (to.belongs-from-struct-known7 c .belongs .ensures symbol p) ∙ not-false _ (to.else1-from-struct-known7 c .if1 .left)) (to.else2-from-struct-known7 c .if2 .left) (sym (to.better-from-struct-known7 c .better .ensures) ∙ to.else3-from-struct-known7 c .if3 .left) (to.then4-from-struct-known7 c .if4 .taken); most = most-of (to.entry-from-struct-known7 c) }
 
 returns-5 : tie.Need-returns-5
-returns-5 c symbol f b = record { same = behind _ _ _ _ (sym (to.belongs-from-else4 c .belongs .ensures symbol f b) ∙ not-false _ (to.else1-from-else4 c .if1 .left)) (to.else2-from-else4 c .if2 .left) (sym (to.better-from-else4 c .better .ensures) ∙ to.else3-from-else4 c .if3 .left) (c .if4 .left); most = most-of (to.entry-from-else4 c) }
+returns-5 c symbol p = record { same = behind _ _ _ _ (sym (to.belongs-from-else4 c .belongs .ensures symbol p) ∙ not-false _ (to.else1-from-else4 c .if1 .left)) (to.else2-from-else4 c .if2 .left) (sym (to.better-from-else4 c .better .ensures) ∙ to.else3-from-else4 c .if3 .left) (c .if4 .left); most = most-of (to.entry-from-else4 c) }
 
 pub join-spec : {M : Type 1} → statement M
 join-spec =

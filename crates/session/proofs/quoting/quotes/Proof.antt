@@ -9,7 +9,7 @@ use lib.ListN.{length, getD, take}
 use borrow.Author.Needs.{needs}
 use Rattle.wire.specs.Number.{splice}
 use Rattle.book.specs.Asking.{bestFor}
-use Rattle.book.specs.Lookup.{frontOf, backOf}
+use Rattle.book.specs.Lookup.{Apart}
 use Rattle.book.proofs.Answers.{Going, best-all, best-reply, best-room, best-start, best-step, due-few}
 use Rattle.session.specs.Meaning.{liveIn, tablesIn}
 use Rattle.session.specs.Quoting.{countIn, numbersOf, questionAt, quoteOf}
@@ -20,11 +20,11 @@ use Rattle.session.proofs.quoting.quotes.Statement.{statement}
 use Rattle.session.proofs.quoting.quotes.Tie as tie
 
 abbrev Inv-loop2 : tie.InvT-loop2
-Inv-loop2 room asked replies session count live k at side good first last level₀ j₀ level j =
-    (symbol : List ℕ) → first ≡ frontOf symbol → last ≡ backOf symbol → Going symbol side (session .orders) j₀ j level
+Inv-loop2 room asked replies session count live k at side good parts level₀ j₀ level j =
+    (symbol : List ℕ) → Apart symbol parts → Going symbol side (session .orders) j₀ j level
 
 abbrev μ-loop2 : tie.MeasureT-loop2
-μ-loop2 room asked replies session count live k at side good first last level₀ j₀ level j = j
+μ-loop2 room asked replies session count live k at side good parts level₀ j₀ level j = j
 
 abbrev Inv-loop : tie.InvT-loop
 Inv-loop room asked replies₀ session count live k₀ replies k = Quoting (tablesIn session room) asked replies₀ replies k
@@ -37,7 +37,7 @@ few : (c : tie.After-due Inv-loop2 μ-loop2 Inv-loop μ-loop) → c .due .result
 few c = due-few (to.good-question-from-due c .good-question .result) (c .due .ensures) (live-few (to.entry-from-due c .pre .1))
 
 going : (c : tie.At-loop2 Inv-loop2 μ-loop2 Inv-loop μ-loop) → Going (to.text14-at-from-loop2 c .text14-at .result) (getD (to.entry-from-loop2 c .args .asked .now) (15 * to.loop-from-loop2 c .loop .k + 14) 0) (to.entry-from-loop2 c .args .t1 .orders) (to.due-from-loop2 c .due .result) (c .loop2 .j) (c .loop2 .level)
-going c = c .loop2 .inv _ (to.front-from-loop2 c .front .ensures) (to.back-from-loop2 c .back .ensures)
+going c = c .loop2 .inv _ (to.parts-of-from-loop2 c .parts-of .ensures)
 
 within : (c : tie.In-loop2 Inv-loop2 μ-loop2 Inv-loop μ-loop) → to.loop2-from-in-loop2 c .loop2 .j ≤ 256
 within c = omega (arith, going (to.loop2-from-in-loop2 c) .within, few (to.due-from-in-loop2 c))
@@ -49,11 +49,11 @@ loop-holds : tie.Need-loop-holds Inv-loop2 μ-loop2 Inv-loop μ-loop
 loop-holds c = quoting-start _ _ _
 
 loop2-holds : tie.Need-loop2-holds Inv-loop2 μ-loop2 Inv-loop μ-loop
-loop2-holds c symbol f b = best-start symbol _ _ (few c) (orders-long (to.entry-from-due c .pre .1)) (to.no-level-from-due c .no-level .ensures)
+loop2-holds c symbol p = best-start symbol _ _ (few c) (orders-long (to.entry-from-due c .pre .1)) (to.no-level-from-due c .no-level .ensures)
 
 loop2-again : tie.Need-loop2-again Inv-loop2 μ-loop2 Inv-loop μ-loop
-loop2-again c symbol f b =
-    best-step symbol _ _ (few (to.due-from-join c)) (orders-long (to.entry-from-join c .pre .1)) (to.loop2-from-join c .loop2 .inv symbol f b) (to.in-loop2-from-join c .loop2-test .taken) (c .join .ensures symbol f b)
+loop2-again c symbol p =
+    best-step symbol _ _ (few (to.due-from-join c)) (orders-long (to.entry-from-join c .pre .1)) (to.loop2-from-join c .loop2 .inv symbol p) (to.in-loop2-from-join c .loop2-test .taken) (c .join .ensures symbol p)
 
 -- the reply to the question at hand
 replied : (c : tie.After-reply-with Inv-loop2 μ-loop2 Inv-loop μ-loop) → numbersOf (c .reply-with .result) ≡ quoteOf (tablesIn (to.entry-from-reply-with c .args .t1) (to.entry-from-reply-with c .args .room .now)) (questionAt (to.loop-from-reply-with c .loop .k) (to.entry-from-reply-with c .args .asked .now))
@@ -73,6 +73,9 @@ loop-again : tie.Need-loop-again Inv-loop2 μ-loop2 Inv-loop μ-loop
 loop-again c =
     quoting-step _ _ _ (room (to.else1-from-slice-known2 c)) (to.loop-from-slice-known2 c .loop .inv) (to.in-loop-from-slice-known2 c .loop-test .taken)
     (to.put-from-slice-known2 c .put .ensures ∙ ap (splice (to.loop-from-slice-known2 c .loop .replies) (4 * to.loop-from-slice-known2 c .loop .k)) (replied (to.reply-with-from-slice-known2 c)))
+
+counted : (c : tie.In-loop Inv-loop2 μ-loop2 Inv-loop μ-loop) → to.loop-from-in-loop c .loop .k + 1 ≤ 18446744073709551615
+counted c = omega arith
 
 returns-2 : tie.Need-returns-2 Inv-loop2 μ-loop2 Inv-loop μ-loop
 returns-2 c = quoted-all _ _ _ (room (to.else1-from-after-loop c)) (to.loop-from-after-loop c .loop .inv) (omega (arith, c .loop-test .left))
@@ -97,7 +100,6 @@ quotes-spec =
     (λ c κs. search needs)
     (λ c κs. search needs)
     (λ c κs. search needs)
-    (λ c κs. search needs)
     loop2-holds
     (λ c. omega arith)
     (λ c. omega (arith, within c))
@@ -108,8 +110,8 @@ quotes-spec =
     (λ c. omega (arith, to.loop-from-put-arg c .loop .inv .within))
     (λ c κs. search needs)
     (λ c κs. quoting-room _ _ _ (room (to.else1-from-reply-with c)) (to.loop-from-reply-with c .loop .inv) (to.in-loop-from-reply-with c .loop-test .taken))
-    (λ c. omega arith)
-    (λ c. omega arith)
+    (λ c. omega (arith, counted (to.in-loop-from-slice-known2 c)))
+    (λ c. omega (arith, to.in-loop-from-slice-known2 c .loop-test .taken))
     loop-again
     (λ c. to.loop-from-after-loop c .loop .inv .same)
     returns-2)

@@ -8,7 +8,7 @@ use mathlib.Core.Logic.{_⊎_, inl, inr, ⊎-elim}
 use Prim.Native.Nat.{ℕ, _+_, _-_, _*_, _≤_, _<_}
 use native.Mathlib.Nat.{mod-lt}
 use native.Mathlib.Omega.{arith}
-use lib.ListN.{length, length-replicate, getD, set, take}
+use lib.ListN.{length, length-replicate, getD, set}
 use Rattle.merge.specs.State.{takeAll}
 use Rattle.wire.specs.Number.{Bytes, splice}
 use Rattle.message.specs.Whole.{Whole}
@@ -26,7 +26,7 @@ use Rattle.book_room.specs.declared.adding.Put.{Put}
 use Rattle.book_room.specs.declared.changing.Act.{Act}
 use Rattle.book_room.specs.declared.changing.Name.{Name}
 use Rattle.session.specs.Meaning.{endIn, held, nextIn, overnight, view}
-use Rattle.window_taking.specs.Turns.{packetsOf}
+use Rattle.window_taking.specs.Turns.{packetsFrom}
 use Rattle.session.specs.Bursts.{rowsOf}
 use Rattle.window_taking.specs.declared.burst.Turn.{Turn}
 use Rattle.session.proofs.Dispatch.{naming-kind, of-kind, telling-kind}
@@ -38,7 +38,7 @@ use Rattle.session.proofs.running.run.Tie as tie
 
 abbrev Inv-loop : tie.InvT-loop
 Inv-loop room₀ window₀ packets single count answers₀ session₀ digits next₀ turn₀ source₀ text₀ room window answers session next turn source text =
-    Going (takeAll overnight (view (held session₀ room₀ window₀)) (take count (packetsOf single packets))) (splice answers₀ 0 (rowsOf (view (held session₀ room₀ window₀)) (take count (packetsOf single packets)))) packets single answers₀ answers (nextIn room₀) (endIn room₀) (session .orders) room window next turn source text
+    Going (takeAll overnight (view (held session₀ room₀ window₀)) (packetsFrom single count 0 packets)) (splice answers₀ 0 (rowsOf (view (held session₀ room₀ window₀)) (packetsFrom single count 0 packets))) packets single count answers₀ answers (nextIn room₀) (endIn room₀) (session .orders) room window next turn source text
 
 abbrev μ-loop : tie.MeasureT-loop
 μ-loop room₀ window₀ packets single count answers₀ session₀ digits next₀ turn₀ source₀ text₀ room window answers session next turn source text = turn .left * 257 + (turn .before + 256 - next)
@@ -53,21 +53,21 @@ loop-holds : tie.Need-loop-holds Inv-loop μ-loop
 loop-holds c = record { now = starts (to.entry-from-start c .pre .0) (to.entry-from-start c .args .packets .now) (to.entry-from-start c .args .single) (to.entry-from-start c .args .answers .now) (to.entry-from-start c .pre .1) (c .start .ensures); wide = length-replicate {A = ℕ} 128 0; same = refl }
 
 same-size : tie.Need-same-length Inv-loop μ-loop
-same-size c = same-length (to.loop-from-then2 c .loop .inv .now) (to.size-from-then2 c .size .ensures) (to.then1-from-then2 c .if1 .taken) (to.close-from-then2 c .close .ensures) ∙ to.loop-from-then2 c .loop .inv .same
+same-size c = same-length (to.loop-from-struct-known c .loop .inv .now) (to.size-from-struct-known c .size .ensures) (to.then1-from-struct-known c .if1 .taken) (to.close-from-struct-known c .close .ensures) ∙ to.loop-from-struct-known c .loop .inv .same
 
 returns : tie.Need-returns Inv-loop μ-loop
-returns c = ends (to.loop-from-then2 c .loop .inv .now) (to.size-from-then2 c .size .ensures) (to.then1-from-then2 c .if1 .taken) (to.close-from-then2 c .close .ensures) (c .if2 .taken)
+returns c = ends (to.loop-from-struct-known c .loop .inv .now) (to.size-from-struct-known c .size .ensures) (to.then1-from-struct-known c .if1 .taken) (to.close-from-struct-known c .close .ensures) (sym (to.done-from-struct-known c .done .ensures) ∙ to.then2-from-struct-known c .if2 .taken)
 
 follow-requires : tie.Need-follow-requires Inv-loop μ-loop
-follow-requires c κs = (holds (to.loop-from-follow-arg c .loop .inv .now) (to.size-from-follow-arg c .size .ensures) (to.then1-from-follow-arg c .if1 .taken), (more (to.loop-from-follow-arg c .loop .inv .now) (to.size-from-follow-arg c .size .ensures) (to.then1-from-follow-arg c .if1 .taken) (to.close-from-follow-arg c .close .ensures) (to.else2-from-follow-arg c .if2 .left), known (to.loop-from-follow-arg c .loop .inv .now) (to.size-from-follow-arg c .size .ensures) (to.then1-from-follow-arg c .if1 .taken)))
+follow-requires c κs = (holds (to.loop-from-follow-arg c .loop .inv .now) (to.size-from-follow-arg c .size .ensures) (to.then1-from-follow-arg c .if1 .taken), (more (to.loop-from-follow-arg c .loop .inv .now) (to.size-from-follow-arg c .size .ensures) (to.then1-from-follow-arg c .if1 .taken) (to.close-from-follow-arg c .close .ensures) (sym (to.done-from-follow-arg c .done .ensures) ∙ to.else2-from-follow-arg c .if2 .left), known (to.loop-from-follow-arg c .loop .inv .now) (to.size-from-follow-arg c .size .ensures) (to.then1-from-follow-arg c .if1 .taken)))
 
 loop-less : tie.Need-loop-less Inv-loop μ-loop
-loop-less c = less-turn (to.loop-from-follow c .loop .turn) (c .follow .result) (to.loop-from-follow c .loop .next) (ap (λ (t : Turn). t .left) (c .follow .ensures .0)) (ap (λ (t : Turn). t .before) (c .follow .ensures .0)) (more (to.loop-from-follow c .loop .inv .now) (to.size-from-follow c .size .ensures) (to.then1-from-follow c .if1 .taken) (to.close-from-follow c .close .ensures) (to.else2-from-follow c .if2 .left) .left)
+loop-less c = less-turn (to.loop-from-follow c .loop .turn) (c .follow .result) (to.loop-from-follow c .loop .next) (ap (λ (t : Turn). t .left) (c .follow .ensures .0)) (ap (λ (t : Turn). t .before) (c .follow .ensures .0)) (more (to.loop-from-follow c .loop .inv .now) (to.size-from-follow c .size .ensures) (to.then1-from-follow c .if1 .taken) (to.close-from-follow c .close .ensures) (sym (to.done-from-follow c .done .ensures) ∙ to.else2-from-follow c .if2 .left) .left)
 
 loop-again : tie.Need-loop-again Inv-loop μ-loop
 loop-again c =
     record {
-      now = follows (to.loop-from-follow c .loop .inv .now) (to.size-from-follow c .size .ensures) (to.then1-from-follow c .if1 .taken) (to.close-from-follow c .close .ensures) (to.else2-from-follow c .if2 .left) (packet-bytes (to.shared-slice-known-from-follow c)) (c .follow .ensures .0) (c .follow .ensures .1);
+      now = follows (to.loop-from-follow c .loop .inv .now) (to.size-from-follow c .size .ensures) (to.then1-from-follow c .if1 .taken) (to.close-from-follow c .close .ensures) (sym (to.done-from-follow c .done .ensures) ∙ to.else2-from-follow c .if2 .left) (packet-bytes (to.shared-slice-known-from-follow c)) (c .follow .ensures .0) (c .follow .ensures .1);
       wide = to.loop-from-follow c .loop .inv .wide;
       same = same-length (to.loop-from-follow c .loop .inv .now) (to.size-from-follow c .size .ensures) (to.then1-from-follow c .if1 .taken) (to.close-from-follow c .close .ensures) ∙ to.loop-from-follow c .loop .inv .same;
     }
@@ -106,7 +106,7 @@ lying c = record { kept = housed c .ready .kept; is = housed c .is }
 
 -- the message is applied, whatever its arm
 moves : (c : tie.After-message Inv-loop μ-loop) {os : List Order} {numbers : List ℕ} → os ≡ after (book c) (number c) (bytes c) .orders → numbers ≡ roomOf (first c) (last c) (after (book c) (number c) (bytes c))
-    → Going (takeAll overnight (view (held (to.entry-from-message c .args .t1) (to.entry-from-message c .args .room .now) (to.entry-from-message c .args .window .now))) (take (to.entry-from-message c .args .count) (packetsOf (to.entry-from-message c .args .single) (to.entry-from-message c .args .packets .now)))) (splice (to.entry-from-message c .args .answers .now) 0 (rowsOf (view (held (to.entry-from-message c .args .t1) (to.entry-from-message c .args .room .now) (to.entry-from-message c .args .window .now))) (take (to.entry-from-message c .args .count) (packetsOf (to.entry-from-message c .args .single) (to.entry-from-message c .args .packets .now))))) (to.entry-from-message c .args .packets .now) (to.entry-from-message c .args .single) (to.entry-from-message c .args .answers .now) (to.loop-from-message c .loop .answers) (first c) (last c) os numbers (to.free-from-message c .free .last .0) (number c + 1) (to.loop-from-message c .loop .turn) (to.onward-from-message c .onward .result) (to.fetch-from-message c .fetch .last .0)
+    → Going (takeAll overnight (view (held (to.entry-from-message c .args .t1) (to.entry-from-message c .args .room .now) (to.entry-from-message c .args .window .now))) (packetsFrom (to.entry-from-message c .args .single) (to.entry-from-message c .args .count) 0 (to.entry-from-message c .args .packets .now))) (splice (to.entry-from-message c .args .answers .now) 0 (rowsOf (view (held (to.entry-from-message c .args .t1) (to.entry-from-message c .args .room .now) (to.entry-from-message c .args .window .now))) (packetsFrom (to.entry-from-message c .args .single) (to.entry-from-message c .args .count) 0 (to.entry-from-message c .args .packets .now)))) (to.entry-from-message c .args .packets .now) (to.entry-from-message c .args .single) (to.entry-from-message c .args .count) (to.entry-from-message c .args .answers .now) (to.loop-from-message c .loop .answers) (first c) (last c) os numbers (to.free-from-message c .free .last .0) (number c + 1) (to.loop-from-message c .loop .turn) (to.onward-from-message c .onward .result) (to.fetch-from-message c .fetch .last .0)
 moves c orders room =
     record {
       now =
@@ -233,8 +233,10 @@ run-spec =
     loop-holds
     (λ c κs. (mod-lt (to.loop-from-size-arg c .loop .next) {m = 256} (omega arith), begins (to.loop-from-size-arg c .loop .inv .now)))
     (λ c κs. closes (to.loop-from-close-arg c .loop .inv .now))
+    (λ c κs. to.loop-from-slice-known2 c .loop .inv .now .within)
     (λ c. search needs)
     (λ c. search needs)
+    (λ c. omega (arith, to.loop-from-struct-known c .loop .inv .now .left))
     same-size
     returns
     follow-requires

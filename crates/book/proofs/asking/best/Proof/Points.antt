@@ -4,7 +4,7 @@ use Rattle.book.proofs.asking.best.Tie as tie
 
 module _ {Inv : tie.InvT-loop} {μ : tie.MeasureT-loop} where
   abbrev pub entry-from-due : tie.After-due Inv μ → tie.Start Inv μ
-  entry-from-due c = c .before .before .before .before .before
+  entry-from-due c = c .before .before .before .before
 
   abbrev pub entry-from-loop : tie.At-loop Inv μ → tie.Start Inv μ
   entry-from-loop c = entry-from-due (c .before)
@@ -22,16 +22,13 @@ module _ {Inv : tie.InvT-loop} {μ : tie.MeasureT-loop} where
   entry-from-reply-with c = entry-from-loop (c .before .before)
 
   abbrev pub good-question-from-due : tie.After-due Inv μ → tie.After-good-question Inv μ
-  good-question-from-due c = c .before .before .before .before
+  good-question-from-due c = c .before .before .before
 
   abbrev pub good-question-from-reply-with : tie.After-reply-with Inv μ → tie.After-good-question Inv μ
   good-question-from-reply-with c = good-question-from-due (c .before .before .before)
 
-  abbrev pub front-from-loop : tie.At-loop Inv μ → tie.After-front Inv μ
-  front-from-loop c = c .before .before .before .before
-
-  abbrev pub back-from-loop : tie.At-loop Inv μ → tie.After-back Inv μ
-  back-from-loop c = c .before .before .before
+  abbrev pub parts-of-from-loop : tie.At-loop Inv μ → tie.After-parts-of Inv μ
+  parts-of-from-loop c = c .before .before .before
 
   abbrev pub no-level-from-due : tie.After-due Inv μ → tie.After-no-level Inv μ
   no-level-from-due c = c .before

@@ -6,22 +6,22 @@ abbrev pub entry-from-run-arg3 : tie.After-run-arg3 → tie.Start
 entry-from-run-arg3 c = c .before .before .before .before .before .before .before
 
 abbrev pub entry-from-refusal-of : tie.After-refusal-of → tie.Start
-entry-from-refusal-of c = entry-from-run-arg3 (c .before .before .before .before)
+entry-from-refusal-of c = entry-from-run-arg3 (c .before .before .before .before .before)
 
 abbrev pub shared-slice-known-from-refusal-of : tie.After-refusal-of → tie.After-shared-slice-known
-shared-slice-known-from-refusal-of c = c .before .before .before .before .before .before .before .before .before .before
+shared-slice-known-from-refusal-of c = c .before .before .before .before .before .before .before .before .before .before .before
 
-abbrev pub count-in-from-run-arg3 : tie.After-run-arg3 → tie.After-count-in
-count-in-from-run-arg3 c = c .before .before .before .before
+abbrev pub most-of-from-run-arg3 : tie.After-run-arg3 → tie.After-most-of
+most-of-from-run-arg3 c = c .before .before .before .before
 
-abbrev pub count-in-from-refusal-of : tie.After-refusal-of → tie.After-count-in
-count-in-from-refusal-of c = count-in-from-run-arg3 (c .before .before .before .before)
+abbrev pub most-of-from-refusal-of : tie.After-refusal-of → tie.After-most-of
+most-of-from-refusal-of c = most-of-from-run-arg3 (c .before .before .before .before .before)
 
 abbrev pub due-of-from-run-arg3 : tie.After-run-arg3 → tie.After-due-of
 due-of-from-run-arg3 c = c .before .before .before
 
 abbrev pub due-of-from-refusal-of : tie.After-refusal-of → tie.After-due-of
-due-of-from-refusal-of c = due-of-from-run-arg3 (c .before .before .before .before)
+due-of-from-refusal-of c = due-of-from-run-arg3 (c .before .before .before .before .before)
 
 abbrev pub run-from-refusal-of : tie.After-refusal-of → tie.After-run
-run-from-refusal-of c = c .before .before .before
+run-from-refusal-of c = c .before .before .before .before

@@ -5,17 +5,17 @@ use Rattle.session.proofs.packets.take.Tie as tie
 abbrev pub entry-from-answers : tie.After-answers → tie.Start
 entry-from-answers c = c .before .before .before .before
 
-abbrev pub entry-from-answers2 : tie.After-answers2 → tie.Start
-entry-from-answers2 c = entry-from-answers (c .before .before)
+abbrev pub entry-from-after : tie.After-after → tie.Start
+entry-from-after c = entry-from-answers (c .before .before .before)
 
 abbrev pub entry-from-answer-by : tie.After-answer-by → tie.Start
-entry-from-answer-by c = entry-from-answers2 (c .before)
+entry-from-answer-by c = entry-from-after (c .before)
 
 abbrev pub shared-slice-known-from-answer-by : tie.After-answer-by → tie.After-shared-slice-known
-shared-slice-known-from-answer-by c = c .before .before .before .before .before .before
+shared-slice-known-from-answer-by c = c .before .before .before .before .before .before .before
 
-abbrev pub run-from-answers2 : tie.After-answers2 → tie.After-run
-run-from-answers2 c = c .before
+abbrev pub run-from-after : tie.After-after → tie.After-run
+run-from-after c = c .before .before
 
 abbrev pub run-from-answer-by : tie.After-answer-by → tie.After-run
-run-from-answer-by c = run-from-answers2 (c .before)
+run-from-answer-by c = run-from-after (c .before)

@@ -7,7 +7,7 @@ module _ {Inv2 : tie.InvT-loop2} {μ2 : tie.MeasureT-loop2} {Inv : tie.InvT-loop
   entry-from-else1 c = c .before .before .before
 
   abbrev pub entry-from-due : tie.After-due Inv2 μ2 Inv μ → tie.Start Inv2 μ2 Inv μ
-  entry-from-due c = entry-from-else1 (c .before .before .before .before .before .before .before .before .before .before)
+  entry-from-due c = entry-from-else1 (c .before .before .before .before .before .before .before .before .before)
 
   abbrev pub entry-from-loop2 : tie.At-loop2 Inv2 μ2 Inv μ → tie.Start Inv2 μ2 Inv μ
   entry-from-loop2 c = entry-from-due (c .before)
@@ -28,16 +28,19 @@ module _ {Inv2 : tie.InvT-loop2} {μ2 : tie.MeasureT-loop2} {Inv : tie.InvT-loop
   else1-from-after-loop c = c .before .before .before
 
   abbrev pub else1-from-reply-with : tie.After-reply-with Inv2 μ2 Inv μ → tie.Else1 Inv2 μ2 Inv μ
-  else1-from-reply-with c = c .before .before .before .before .before .before .before .before .before .before .before .before .before .before
+  else1-from-reply-with c = c .before .before .before .before .before .before .before .before .before .before .before .before .before
 
   abbrev pub else1-from-slice-known2 : tie.After-slice-known2 Inv2 μ2 Inv μ → tie.Else1 Inv2 μ2 Inv μ
   else1-from-slice-known2 c = else1-from-reply-with (c .before .before .before)
+
+  abbrev pub loop-from-in-loop : tie.In-loop Inv2 μ2 Inv μ → tie.At-loop Inv2 μ2 Inv μ
+  loop-from-in-loop c = c .before
 
   abbrev pub loop-from-after-loop : tie.After-loop Inv2 μ2 Inv μ → tie.At-loop Inv2 μ2 Inv μ
   loop-from-after-loop c = c .before
 
   abbrev pub loop-from-loop2 : tie.At-loop2 Inv2 μ2 Inv μ → tie.At-loop Inv2 μ2 Inv μ
-  loop-from-loop2 c = c .before .before .before .before .before .before .before .before .before
+  loop-from-loop2 c = loop-from-in-loop (c .before .before .before .before .before .before .before)
 
   abbrev pub loop-from-put-arg : tie.After-put-arg Inv2 μ2 Inv μ → tie.At-loop Inv2 μ2 Inv μ
   loop-from-put-arg c = loop-from-loop2 (c .before .before)
@@ -49,28 +52,25 @@ module _ {Inv2 : tie.InvT-loop2} {μ2 : tie.MeasureT-loop2} {Inv : tie.InvT-loop
   loop-from-slice-known2 c = loop-from-reply-with (c .before .before .before)
 
   abbrev pub in-loop-from-reply-with : tie.After-reply-with Inv2 μ2 Inv μ → tie.In-loop Inv2 μ2 Inv μ
-  in-loop-from-reply-with c = c .before .before .before .before .before .before .before .before .before .before .before
+  in-loop-from-reply-with c = c .before .before .before .before .before .before .before .before .before .before
 
   abbrev pub in-loop-from-slice-known2 : tie.After-slice-known2 Inv2 μ2 Inv μ → tie.In-loop Inv2 μ2 Inv μ
   in-loop-from-slice-known2 c = in-loop-from-reply-with (c .before .before .before)
 
   abbrev pub text14-at-from-loop2 : tie.At-loop2 Inv2 μ2 Inv μ → tie.After-text14-at Inv2 μ2 Inv μ
-  text14-at-from-loop2 c = c .before .before .before .before .before .before .before
+  text14-at-from-loop2 c = c .before .before .before .before .before .before
 
   abbrev pub text14-at-from-reply-with : tie.After-reply-with Inv2 μ2 Inv μ → tie.After-text14-at Inv2 μ2 Inv μ
   text14-at-from-reply-with c = text14-at-from-loop2 (c .before .before .before)
 
   abbrev pub good-question-from-due : tie.After-due Inv2 μ2 Inv μ → tie.After-good-question Inv2 μ2 Inv μ
-  good-question-from-due c = c .before .before .before .before
+  good-question-from-due c = c .before .before .before
 
   abbrev pub good-question-from-reply-with : tie.After-reply-with Inv2 μ2 Inv μ → tie.After-good-question Inv2 μ2 Inv μ
   good-question-from-reply-with c = good-question-from-due (c .before .before .before .before)
 
-  abbrev pub front-from-loop2 : tie.At-loop2 Inv2 μ2 Inv μ → tie.After-front Inv2 μ2 Inv μ
-  front-from-loop2 c = c .before .before .before .before
-
-  abbrev pub back-from-loop2 : tie.At-loop2 Inv2 μ2 Inv μ → tie.After-back Inv2 μ2 Inv μ
-  back-from-loop2 c = c .before .before .before
+  abbrev pub parts-of-from-loop2 : tie.At-loop2 Inv2 μ2 Inv μ → tie.After-parts-of Inv2 μ2 Inv μ
+  parts-of-from-loop2 c = c .before .before .before
 
   abbrev pub no-level-from-due : tie.After-due Inv2 μ2 Inv μ → tie.After-no-level Inv2 μ2 Inv μ
   no-level-from-due c = c .before

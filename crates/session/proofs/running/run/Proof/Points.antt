@@ -33,11 +33,14 @@ module _ {Inv : tie.InvT-loop} {μ : tie.MeasureT-loop} where
   abbrev pub loop-from-close-arg : tie.After-close-arg Inv μ → tie.At-loop Inv μ
   loop-from-close-arg c = loop-from-size-arg (c .before .before .before)
 
-  abbrev pub loop-from-then2 : tie.Then2 Inv μ → tie.At-loop Inv μ
-  loop-from-then2 c = loop-from-close-arg (c .before .before .before .before .before)
+  abbrev pub loop-from-slice-known2 : tie.After-slice-known2 Inv μ → tie.At-loop Inv μ
+  loop-from-slice-known2 c = loop-from-close-arg (c .before .before .before)
+
+  abbrev pub loop-from-struct-known : tie.After-struct-known Inv μ → tie.At-loop Inv μ
+  loop-from-struct-known c = loop-from-slice-known2 (c .before .before .before)
 
   abbrev pub loop-from-follow-arg : tie.After-follow-arg Inv μ → tie.At-loop Inv μ
-  loop-from-follow-arg c = loop-from-close-arg (c .before .before .before .before .before .before)
+  loop-from-follow-arg c = loop-from-slice-known2 (c .before .before .before)
 
   abbrev pub loop-from-follow : tie.After-follow Inv μ → tie.At-loop Inv μ
   loop-from-follow c = loop-from-follow-arg (c .before)
@@ -60,8 +63,8 @@ module _ {Inv : tie.InvT-loop} {μ : tie.MeasureT-loop} where
   abbrev pub loop-from-change-arg : tie.After-change-arg Inv μ → tie.At-loop Inv μ
   loop-from-change-arg c = loop-from-message (c .before .before .before .before .before .before .before .before .before .before .before)
 
-  abbrev pub size-from-then2 : tie.Then2 Inv μ → tie.After-size Inv μ
-  size-from-then2 c = c .before .before .before .before .before .before .before
+  abbrev pub size-from-struct-known : tie.After-struct-known Inv μ → tie.After-size Inv μ
+  size-from-struct-known c = c .before .before .before .before .before .before .before .before
 
   abbrev pub size-from-follow-arg : tie.After-follow-arg Inv μ → tie.After-size Inv μ
   size-from-follow-arg c = c .before .before .before .before .before .before .before .before
@@ -78,8 +81,8 @@ module _ {Inv : tie.InvT-loop} {μ : tie.MeasureT-loop} where
   abbrev pub size-from-message : tie.After-message Inv μ → tie.After-size Inv μ
   size-from-message c = size-from-free (c .before .before .before)
 
-  abbrev pub then1-from-then2 : tie.Then2 Inv μ → tie.Then1 Inv μ
-  then1-from-then2 c = c .before .before .before .before .before .before
+  abbrev pub then1-from-struct-known : tie.After-struct-known Inv μ → tie.Then1 Inv μ
+  then1-from-struct-known c = c .before .before .before .before .before .before .before
 
   abbrev pub then1-from-follow-arg : tie.After-follow-arg Inv μ → tie.Then1 Inv μ
   then1-from-follow-arg c = c .before .before .before .before .before .before .before
@@ -87,14 +90,26 @@ module _ {Inv : tie.InvT-loop} {μ : tie.MeasureT-loop} where
   abbrev pub then1-from-follow : tie.After-follow Inv μ → tie.Then1 Inv μ
   then1-from-follow c = then1-from-follow-arg (c .before)
 
-  abbrev pub close-from-then2 : tie.Then2 Inv μ → tie.After-close Inv μ
-  close-from-then2 c = c .before .before .before .before
+  abbrev pub close-from-struct-known : tie.After-struct-known Inv μ → tie.After-close Inv μ
+  close-from-struct-known c = c .before .before .before .before .before
 
   abbrev pub close-from-follow-arg : tie.After-follow-arg Inv μ → tie.After-close Inv μ
   close-from-follow-arg c = c .before .before .before .before .before
 
   abbrev pub close-from-follow : tie.After-follow Inv μ → tie.After-close Inv μ
   close-from-follow c = close-from-follow-arg (c .before)
+
+  abbrev pub done-from-struct-known : tie.After-struct-known Inv μ → tie.After-done Inv μ
+  done-from-struct-known c = c .before .before
+
+  abbrev pub done-from-follow-arg : tie.After-follow-arg Inv μ → tie.After-done Inv μ
+  done-from-follow-arg c = c .before .before
+
+  abbrev pub done-from-follow : tie.After-follow Inv μ → tie.After-done Inv μ
+  done-from-follow c = done-from-follow-arg (c .before)
+
+  abbrev pub then2-from-struct-known : tie.After-struct-known Inv μ → tie.Then2 Inv μ
+  then2-from-struct-known c = c .before
 
   abbrev pub else2-from-follow-arg : tie.After-follow-arg Inv μ → tie.Else2 Inv μ
   else2-from-follow-arg c = c .before

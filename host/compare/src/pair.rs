@@ -1,0 +1,291 @@
+//! The library's session and the twin's, side by side: each call is made on both, and the answers must be equal.
+
+use jangsebit::{Answer, Burst, Question, Quote, Refusal};
+use std::fmt::Debug;
+
+/// The answer to one packet, from either.
+#[derive(Clone, Copy, Debug, PartialEq, Eq)]
+pub struct Row {
+    pub answer: Result<u64, u8>,
+    pub next: u64,
+    pub end: u64,
+}
+
+impl Row {
+    pub fn of(answer: &Answer) -> Row {
+        Row {
+            answer: applied(answer.result()),
+            next: answer.next(),
+            end: answer.end(),
+        }
+    }
+}
+
+/// A call whose answers differ.
+pub type Difference = String;
+
+pub struct Pair {
+    library: jangsebit::Session,
+    twin: Box<twin::Session>,
+    answers: Vec<Answer>,
+}
+
+/// The answer to a call that both gave.
+fn agreed<T: PartialEq + Debug>(call: impl Debug, library: T, twin: T) -> Result<T, Difference> {
+    if library == twin {
+        return Ok(library);
+    }
+    Err(format!("{call:02x?}: library {library:?}, twin {twin:?}"))
+}
+
+fn equal<T: PartialEq + Debug>(call: impl Debug, library: T, twin: T) -> Result<(), Difference> {
+    agreed(call, library, twin).map(drop)
+}
+
+/// That a refused call left the library's session as it was, byte for byte.
+fn kept(before: &jangsebit::Session, after: &jangsebit::Session) -> Result<(), Difference> {
+    if before == after {
+        return Ok(());
+    }
+    Err("a refusal changed the library's session".into())
+}
+
+fn applied(answer: Result<jangsebit::Applied, Refusal>) -> Result<u64, u8> {
+    answer
+        .map(|applied| applied.messages)
+        .map_err(Refusal::number)
+}
+
+fn order(order: &jangsebit::Order) -> twin::Order {
+    twin::Order {
+        id: order.id,
+        price: order.price,
+        shares: order.shares,
+        firm: order.firm,
+        symbol: order.symbol,
+        side: order.side,
+        unsolicited: order.unsolicited,
+    }
+}
+
+fn inside(inside: jangsebit::Inside) -> twin::Inside {
+    twin::Inside {
+        ask: inside.ask,
+        bid: inside.bid,
+        time: inside.time,
+        asked: inside.ask_volume,
+        bidden: inside.bid_volume,
+        symbol: inside.symbol,
+        unsolicited: inside.unsolicited,
+    }
+}
+
+fn best(level: jangsebit::Level) -> twin::Best {
+    twin::Best {
+        price: level.price,
+        shares: level.shares,
+        orders: level.orders,
+    }
+}
+
+fn by_number<T>(answer: Result<T, Refusal>) -> Result<T, twin::Refusal> {
+    answer.map_err(|refusal| twin::Refusal(refusal.number()))
+}
+
+/// An id that has a value.
+pub fn id_of(mut value: u64) -> [u8; 14] {
+    let mut id = *b"000000000000..";
+    for digit in id[..12].iter_mut().rev() {
+        *digit = b"0123456789ABCDEFGHIJKLMNOPQRSTUVWXYZ"[(value % 36) as usize];
+        value /= 36;
+    }
+    id
+}
+
+impl Pair {
+    pub fn open(number: u32) -> Pair {
+        Pair {
+            library: jangsebit::Session::open(number),
+            twin: Box::new(twin::Session::open(number)),
+            answers: Vec::new(),
+        }
+    }
+
+    /// Opens both again; the library in the memory that it has.
+    pub fn reopen(&mut self, number: u32) {
+        self.library.reopen(number);
+        *self.twin = twin::Session::open(number);
+    }
+
+    pub fn twin(&self) -> &twin::Session {
+        &self.twin
+    }
+
+    fn twin_row(&mut self, packet: &[u8]) -> Row {
+        Row {
+            answer: self.twin.take(packet).map_err(|refusal| refusal.0),
+            next: self.twin.next(),
+            end: self.twin.end(),
+        }
+    }
+
+    /// One packet in one call.
+    pub fn take(&mut self, packet: &[u8]) -> Result<Row, Difference> {
+        let answer = applied(self.library.take(packet));
+        let numbers = self.library.numbers();
+        let row = Row {
+            answer,
+            next: numbers.next,
+            end: numbers.end,
+        };
+        let expected = self.twin_row(packet);
+        agreed(packet, row, expected)
+    }
+
+    /// The same; a refusal must have left the library's session as it was.
+    pub fn take_watched(&mut self, packet: &[u8]) -> Result<Row, Difference> {
+        let before = self.library.clone();
+        let row = self.take(packet)?;
+        if row.answer.is_err() {
+            kept(&before, &self.library)?;
+        }
+        Ok(row)
+    }
+
+    /// Packets in one call, `bytes` as a burst has them from the first of `packets` on, with a list for a few answers
+    /// more. The call is told how many to take.
+    pub fn burst<'a>(
+        &mut self,
+        bytes: &[u8],
+        packets: impl ExactSizeIterator<Item = &'a [u8]>,
+        told: usize,
+    ) -> Result<(), Difference> {
+        let count = packets.len();
+        let mut answers = std::mem::take(&mut self.answers);
+        answers.clear();
+        answers.resize(told + 3, Answer::default());
+        let burst = self.library.burst(bytes, told, &mut answers);
+        let mut taken = 0;
+        for (packet, answer) in packets.zip(&answers) {
+            let expected = self.twin_row(packet);
+            taken += 2 + packet.len();
+            equal(packet, Row::of(answer), expected)?;
+        }
+        let expected = Burst {
+            packets: count,
+            bytes: taken,
+        };
+        equal("burst", burst, Ok(expected))?;
+        let stay = answers[count..].iter().all(|a| *a == Answer::default());
+        equal("answers behind the last", stay, true)?;
+        self.answers = answers;
+        Ok(())
+    }
+
+    /// Packets in one call whose answers do not fit: neither session takes one.
+    pub fn burst_too_short(&mut self, bytes: &[u8], count: usize) -> Result<(), Difference> {
+        let before = self.library.clone();
+        let mut answers = vec![Answer::default(); count - 1];
+        let burst = self.library.burst(bytes, count, &mut answers);
+        equal("short burst", burst, Err(Refusal::BufferTooShort))?;
+        let stay = answers.iter().all(|answer| *answer == Answer::default());
+        equal("its answers", stay, true)?;
+        kept(&before, &self.library)
+    }
+
+    /// next, end, the tables' counts, the code and the faults.
+    pub fn numbers(&self) -> Result<(), Difference> {
+        let numbers = self.library.numbers();
+        let faults = self.twin.faults();
+        let first = numbers
+            .faults
+            .first()
+            .map(|(number, fault)| (number, fault.number()));
+        let expected = (faults.count > 0).then_some((faults.number, faults.reason));
+        equal("next", numbers.next, self.twin.next())?;
+        equal("end", numbers.end, self.twin.end())?;
+        equal("live", numbers.live, self.twin.book().live())?;
+        equal("held", numbers.held, self.twin.book().held_insides().len())?;
+        equal("code", numbers.code, self.twin.code())?;
+        equal("faults", numbers.faults.count, faults.count)?;
+        equal("first fault", first, expected)
+    }
+
+    /// All fields of both tables. The order of their places does not count.
+    pub fn tables(&self) -> Result<(), Difference> {
+        self.numbers()?;
+        let mut found: Vec<_> = self.library.orders().iter().map(order).collect();
+        let mut expected: Vec<_> = self.twin.book().live_orders().copied().collect();
+        found.sort_by_key(|order| order.id);
+        expected.sort_by_key(|order| order.id);
+        equal("orders", found, expected)?;
+        for order in self.twin.book().live_orders() {
+            self.order(&id_of(order.id))?;
+        }
+        // As many are held by both: those of the twin are all there are.
+        for inside in self.twin.book().held_insides() {
+            self.inside(&inside.symbol)?;
+        }
+        Ok(())
+    }
+
+    pub fn order(&self, id: &[u8; 14]) -> Result<bool, Difference> {
+        let found = by_number(self.library.order(id)).map(|found| order(&found));
+        Ok(agreed(("order", id), found, self.twin.order(id))?.is_ok())
+    }
+
+    pub fn inside(&self, symbol: &[u8; 14]) -> Result<bool, Difference> {
+        let found = by_number(self.library.inside(symbol)).map(inside);
+        Ok(agreed(("inside", symbol), found, self.twin.inside(symbol))?.is_ok())
+    }
+
+    pub fn best(&self, symbol: &[u8; 14], side: u8) -> Result<bool, Difference> {
+        let found = by_number(self.library.best(symbol, side)).map(best);
+        Ok(agreed(("best", symbol, side), found, self.twin.best(symbol, side))?.is_ok())
+    }
+
+    /// Many best prices in one call, and one reply too few for them.
+    pub fn quotes(&self, asked: &[Question]) -> Result<(), Difference> {
+        let mut replies = vec![Quote::default(); asked.len() + 1];
+        equal(
+            "quotes",
+            self.library.quotes(asked, &mut replies),
+            Ok(asked.len()),
+        )?;
+        for (question, reply) in asked.iter().zip(&replies) {
+            let expected = self.twin.best(&question.symbol, question.side);
+            equal(question, by_number(reply.level()).map(best), expected)?;
+        }
+        equal("the reply behind", replies[asked.len()], Quote::default())?;
+        if let Some(fewer) = asked.len().checked_sub(1) {
+            let mut replies = vec![Quote::default(); fewer];
+            let answer = self.library.quotes(asked, &mut replies);
+            equal("short quotes", answer, Err(Refusal::BufferTooShort))?;
+            let stay = replies.iter().all(|reply| *reply == Quote::default());
+            equal("its replies", stay, true)?;
+        }
+        Ok(())
+    }
+
+    /// The requests into a buffer of some length, with all its bytes; how many, if they fit.
+    pub fn requests(&self, length: usize) -> Result<Option<usize>, Difference> {
+        let (mut found, mut expected) = (vec![0xaa; length], vec![0xaa; length]);
+        let answer = by_number(self.library.requests(&mut found));
+        let count = agreed(
+            ("requests", length),
+            answer,
+            self.twin.requests(&mut expected),
+        )?;
+        equal("requests' bytes", found, expected)?;
+        Ok(count.ok())
+    }
+
+    pub fn gaps(&self) -> Result<(), Difference> {
+        let found: Vec<_> = self
+            .library
+            .gaps()
+            .map(|gap| (gap.start, gap.count))
+            .collect();
+        equal("gaps", found, self.twin.missing())
+    }
+}

@@ -1,0 +1,380 @@
+//! A session.
+
+use crate::answers::{Answer, Applied, Burst, Question, Quote};
+use crate::refusal::{named, refused, Fault, Refusal};
+use crate::sys::{self, Memory};
+use crate::tables::{Inside, Level, Order};
+use std::fmt;
+use std::iter::FusedIterator;
+
+/// One channel of the feed: two lines and retransmissions merged by number, each message applied once and in order.
+///
+/// A session is 61,456 bytes in a box, and no call allocates behind its opening. It can be sent to another thread and
+/// copied with all it holds. Two sessions are equal exactly if they hold the same: tables, waiting messages, numbers.
+///
+/// ```
+/// use jangsebit::{Refusal, Session};
+///
+/// let mut session = Session::open(10);
+/// // A heartbeat at 12: numbers 10 and 11 have been sent, and were not seen here.
+/// let heartbeat = [0, 12, 0, 0, 0, 12, 1, 0, 0, 0, 0, 0];
+/// assert_eq!(session.take(&heartbeat)?.messages, 0);
+/// assert_eq!(session.numbers().next, 10);
+/// assert_eq!(session.numbers().end, 12);
+/// // So they are asked for: from 10 on, two.
+/// let mut requests = [0; 12];
+/// assert_eq!(session.requests(&mut requests)?, 1);
+/// assert_eq!(requests, [0, 12, b'r', 0, 0, 0, 10, 0, 0, 0, 2, b'Y']);
+/// # Ok::<(), Refusal>(())
+/// ```
+#[derive(Clone, PartialEq, Eq)]
+pub struct Session {
+    memory: Box<Memory>,
+}
+
+const _: () = {
+    const fn shared<T: Send + Sync>() {}
+    shared::<Session>();
+};
+
+/// The exports that this crate was written for.
+const VERSION: u32 = 1;
+
+impl Session {
+    /// How many orders can be live.
+    pub const ORDERS: usize = sys::ORDERS;
+
+    /// How many insides can be held.
+    pub const INSIDES: usize = 64;
+
+    /// How many numbers from next on can wait.
+    pub const WINDOW: u64 = 256;
+
+    /// The bytes of the longest packet.
+    pub const LONGEST: usize = 1_472;
+
+    /// The bytes of one request.
+    pub const REQUEST: usize = 12;
+
+    /// Bytes that hold all requests there can be: every second number of the window is missing.
+    pub const REQUESTS: usize = Self::REQUEST * Self::WINDOW as usize / 2;
+
+    /// A fresh session: `number` is the first that it waits for.
+    ///
+    /// # Panics
+    ///
+    /// Where the archive that was linked has other exports than this crate.
+    pub fn open(number: u32) -> Session {
+        assert_eq!(sys::version(), VERSION, "the version of the library");
+        Session {
+            memory: Memory::opened(number),
+        }
+    }
+
+    /// Opens the session again, in the memory that it has: all it held is gone. For the next night, and where the
+    /// venue starts its numbers again.
+    pub fn reopen(&mut self, number: u32) {
+        self.memory.open(number);
+    }
+
+    /// Takes one packet, from either line or from retransmission.
+    ///
+    /// A packet that does not carry next is kept or refused without a look at the tables.
+    ///
+    /// # Errors
+    ///
+    /// Refusals 1 to 10; the session is then as it was.
+    ///
+    /// ```
+    /// # let mut session = jangsebit::Session::open(1_000);
+    /// // An Imbalance, number 1,000.
+    /// let packet = [0, 15, 0, 0, 3, 232, 0, 1, 0, 0, 0, 0, 0, 3, 28];
+    /// match session.take(&packet) {
+    ///     Ok(applied) => assert_eq!(applied.messages, 1),
+    ///     Err(refusal) => eprintln!("refused {}: {refusal}", refusal.number()),
+    /// }
+    /// // The other line brings it too: it is old, and accepted.
+    /// assert_eq!(session.take(&packet).unwrap().messages, 0);
+    /// ```
+    #[inline]
+    pub fn take(&mut self, packet: &[u8]) -> Result<Applied, Refusal> {
+        match self.memory.pass(packet) {
+            [0, _] => self.memory.packet(packet).result(),
+            [1, _] => Ok(Applied { messages: 0 }),
+            [_, refusal] => Err(named(refusal)),
+        }
+    }
+
+    /// Takes the first `count` packets of those that stand one behind the other, each behind its length as a big-endian
+    /// number of 2 bytes, or all that there are if these are fewer. What is left of a packet at the end is not looked at.
+    /// The session and the answers are those of taking them one by one, and a call for many costs less than a call for each.
+    ///
+    /// A packet that is refused has its refusal in its own answer, and those behind it are taken.
+    ///
+    /// # Errors
+    ///
+    /// [`Refusal::BufferTooShort`] where there are fewer answers than `count`; none is then taken.
+    ///
+    /// ```
+    /// use jangsebit::{Answer, Refusal, Session};
+    ///
+    /// let first = [0, 15, 0, 0, 0, 1, 0, 1, 0, 0, 0, 0, 0, 3, 28];
+    /// let heartbeat = [0, 12, 0, 0, 0, 2, 1, 0, 0, 0, 0, 0];
+    /// let mut packets = Vec::new();
+    /// for packet in [&first[..], &heartbeat[..]] {
+    ///     packets.extend((packet.len() as u16).to_be_bytes());
+    ///     packets.extend(packet);
+    /// }
+    /// let mut session = Session::open(1);
+    /// let mut answers = [Answer::default(); 64];
+    /// assert_eq!(session.burst(&packets, 65, &mut answers), Err(Refusal::BufferTooShort));
+    /// let burst = session.burst(&packets, 64, &mut answers)?;
+    /// assert_eq!((burst.packets, burst.bytes), (2, packets.len()));
+    /// assert_eq!(answers[0].result()?.messages, 1);
+    /// assert_eq!((answers[1].next(), answers[1].end()), (2, 2));
+    /// # Ok::<(), Refusal>(())
+    /// ```
+    #[inline]
+    pub fn burst(
+        &mut self,
+        packets: &[u8],
+        count: usize,
+        answers: &mut [Answer],
+    ) -> Result<Burst, Refusal> {
+        let [refusal, packets, bytes] = self.memory.burst(packets, count, answers);
+        refused(refusal)?;
+        Ok(Burst {
+            packets: packets as usize,
+            bytes: bytes as usize,
+        })
+    }
+
+    /// next, end, the counts of the tables, the session code and the record of faults.
+    #[inline]
+    pub fn numbers(&self) -> Numbers {
+        let [next, end, live, held, code, number, count, reason] = self.memory.numbers();
+        Numbers {
+            next,
+            end,
+            live: live as usize,
+            held: held as usize,
+            code: code as u8,
+            faults: Faults {
+                count,
+                number,
+                reason: reason as u8,
+            },
+        }
+    }
+
+    /// The best price of a symbol on a side, a [`Side`](crate::Side) or its byte.
+    ///
+    /// # Errors
+    ///
+    /// [`Refusal::BadQuestion`], then [`Refusal::NotFound`] where no such order is live.
+    ///
+    /// ```
+    /// use jangsebit::{symbol, Refusal, Session, Side};
+    ///
+    /// // An Order Add, message 7: 300 shares of OTCM bid for at 1,250,000.
+    /// let mut packet = vec![0, 67, 0, 0, 0, 7, 0, 1, 0, 0, 0, 0];
+    /// packet.extend(b"\x00\x37\x15\x00\x00\x00\x017A400CY528L9SNB\x00\x00\x01\x2cOTCM          ");
+    /// packet.extend(1_250_000u64.to_be_bytes());
+    /// packet.extend(b"FIRMN\x00\x00");
+    /// let mut session = Session::open(7);
+    /// session.take(&packet)?;
+    /// let otcm = symbol("OTCM").unwrap();
+    /// let best = session.best(&otcm, Side::Bid)?;
+    /// assert_eq!((best.price, best.shares, best.orders), (1_250_000, 300, 1));
+    /// assert_eq!(session.best(&otcm, Side::Ask), Err(Refusal::NotFound));
+    /// assert_eq!(session.order(b"7A400CY528L9SN")?.shares, 300);
+    /// assert_eq!(session.orders()[0].firm, *b"FIRM");
+    /// # Ok::<(), Refusal>(())
+    /// ```
+    #[inline]
+    pub fn best(&self, symbol: &[u8; 14], side: impl Into<u8>) -> Result<Level, Refusal> {
+        let mut reply = [Quote::default()];
+        refused(
+            self.memory
+                .quotes(&[Question::new(*symbol, side)], &mut reply),
+        )?;
+        reply[0].level()
+    }
+
+    /// The best prices of many symbols and sides, a reply for each question. The answer is how many there are; replies
+    /// behind them stay as they were.
+    ///
+    /// # Errors
+    ///
+    /// [`Refusal::BufferTooShort`] where there are fewer replies than questions; none is then written. What
+    /// [`best`](Session::best) would refuse is refused in the reply.
+    ///
+    /// ```
+    /// use jangsebit::{symbol, Question, Quote, Refusal, Session, Side};
+    ///
+    /// let session = Session::open(1);
+    /// let otcm = symbol("OTCM").unwrap();
+    /// let asked = [Question::new(otcm, Side::Bid), Question::new(otcm, b'b')];
+    /// let mut replies = [Quote::default(); 2];
+    /// assert_eq!(session.quotes(&asked, &mut replies)?, 2);
+    /// assert_eq!(replies[0].level(), Err(Refusal::NotFound));
+    /// assert_eq!(replies[1].level(), Err(Refusal::BadQuestion));
+    /// # Ok::<(), Refusal>(())
+    /// ```
+    #[inline]
+    pub fn quotes(&self, asked: &[Question], replies: &mut [Quote]) -> Result<usize, Refusal> {
+        refused(self.memory.quotes(asked, replies))?;
+        Ok(asked.len())
+    }
+
+    /// The live order of an id. The id's last two bytes tell no order from another.
+    ///
+    /// # Errors
+    ///
+    /// [`Refusal::BadQuestion`], then [`Refusal::NotFound`] where no such order is live.
+    #[inline]
+    pub fn order(&self, id: &[u8; 14]) -> Result<Order, Refusal> {
+        let (refusal, told) = self.memory.order(id);
+        refused(refusal)?;
+        Ok(Order::by(told))
+    }
+
+    /// All live orders, where they lie; any packet may change their places.
+    pub fn orders(&self) -> &[Order] {
+        &self.memory.orders()[..self.numbers().live]
+    }
+
+    /// The inside of a symbol.
+    ///
+    /// # Errors
+    ///
+    /// [`Refusal::BadQuestion`], then [`Refusal::NotFound`] where no Top of Book has come for the symbol.
+    #[inline]
+    pub fn inside(&self, symbol: &[u8; 14]) -> Result<Inside, Refusal> {
+        let (refusal, told) = self.memory.inside(symbol);
+        refused(refusal)?;
+        Ok(Inside::by(*symbol, told))
+    }
+
+    /// Writes a request of [`REQUEST`](Session::REQUEST) bytes for each run of missing numbers, one behind the other, and
+    /// answers how many. Bytes behind the last stay as they were.
+    ///
+    /// # Errors
+    ///
+    /// [`Refusal::BufferTooShort`] where not all fit; nothing is then written. [`REQUESTS`](Session::REQUESTS) bytes are
+    /// always enough.
+    #[inline]
+    pub fn requests(&self, buffer: &mut [u8]) -> Result<usize, Refusal> {
+        let (refusal, count) = self.memory.requests(buffer);
+        refused(refusal)?;
+        Ok(count as usize)
+    }
+
+    /// The runs of missing numbers, ascending: those from next and below both end and next + 256 that do not wait.
+    ///
+    /// ```
+    /// use jangsebit::{Gap, Session};
+    ///
+    /// let mut session = Session::open(10);
+    /// session.take(&[0, 15, 0, 0, 0, 12, 0, 1, 0, 0, 0, 0, 0, 3, 28]).unwrap();
+    /// session.take(&[0, 12, 0, 0, 0, 14, 1, 0, 0, 0, 0, 0]).unwrap();
+    /// let gaps: Vec<Gap> = session.gaps().collect();
+    /// assert_eq!(gaps, [Gap { start: 10, count: 2 }, Gap { start: 13, count: 1 }]);
+    /// ```
+    pub fn gaps(&self) -> Gaps<'_> {
+        Gaps {
+            memory: &self.memory,
+            from: 0,
+        }
+    }
+}
+
+impl fmt::Debug for Session {
+    fn fmt(&self, f: &mut fmt::Formatter<'_>) -> fmt::Result {
+        f.debug_tuple("Session").field(&self.numbers()).finish()
+    }
+}
+
+/// The numbers of a session.
+#[derive(Clone, Copy, Debug, PartialEq, Eq)]
+pub struct Numbers {
+    /// The lowest number that no accepted packet has carried: all below it are applied. May reach 4,294,967,296.
+    pub next: u64,
+    /// The largest end known: all numbers below it have been sent. Never below next.
+    pub end: u64,
+    /// How many orders are live.
+    pub live: usize,
+    /// How many insides are held.
+    pub held: usize,
+    /// The code of the last Trading Session; 0 before the first.
+    pub code: u8,
+    /// The record of faults.
+    pub faults: Faults,
+}
+
+/// The faults since the opening.
+#[derive(Clone, Copy, Debug, PartialEq, Eq)]
+pub struct Faults {
+    /// How many messages faulted.
+    pub count: u64,
+    number: u64,
+    reason: u8,
+}
+
+impl Faults {
+    /// The number and the reason of the first message that faulted, if one did.
+    ///
+    /// ```
+    /// use jangsebit::{Fault, Session};
+    ///
+    /// let mut session = Session::open(5);
+    /// assert_eq!(session.numbers().faults.first(), None);
+    /// // A message of type 99, number 5: it counts, and changes nothing.
+    /// session.take(&[0, 15, 0, 0, 0, 5, 0, 1, 0, 0, 0, 0, 0, 3, 99]).unwrap();
+    /// assert_eq!(session.numbers().faults.first(), Some((5, Fault::UnlistedType)));
+    /// assert_eq!(session.numbers().next, 6);
+    /// ```
+    pub fn first(&self) -> Option<(u64, Fault)> {
+        match Fault::try_from(self.reason) {
+            Ok(fault) if self.count > 0 => Some((self.number, fault)),
+            _ => None,
+        }
+    }
+}
+
+/// A run of missing numbers.
+#[derive(Clone, Copy, Debug, PartialEq, Eq)]
+pub struct Gap {
+    /// The first number that is missing.
+    pub start: u64,
+    /// How many are, from there on.
+    pub count: u64,
+}
+
+/// The runs of missing numbers of a session: see [`Session::gaps`].
+#[derive(Clone)]
+pub struct Gaps<'a> {
+    memory: &'a Memory,
+    from: u64,
+}
+
+impl Iterator for Gaps<'_> {
+    type Item = Gap;
+
+    fn next(&mut self) -> Option<Gap> {
+        let [start, count] = self.memory.gap(self.from);
+        if count == 0 {
+            return None;
+        }
+        self.from = start + count;
+        Some(Gap { start, count })
+    }
+}
+
+impl FusedIterator for Gaps<'_> {}
+
+impl fmt::Debug for Gaps<'_> {
+    fn fmt(&self, f: &mut fmt::Formatter<'_>) -> fmt::Result {
+        f.debug_list().entries(self.clone()).finish()
+    }
+}

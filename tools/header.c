@@ -1,0 +1,272 @@
+/* Holds include/jangsebit.h to the archive that it is linked with, at run time: the sizes of what a host holds, the places
+ * of an order's fields, and what each function answers and leaves. C11 and C++17; tools/hosts.sh runs it as both.
+ *
+ * An opening fills the three parts of a session and nothing else, so their sizes show in what it overwrites. */
+#include "jangsebit.h"
+
+#include <stdio.h>
+#include <string.h>
+
+#define MARGIN 64
+#define STALE 0xAA
+
+static int failures = 0;
+
+#define EXPECT(fact) expect((fact) != 0, #fact, __LINE__)
+
+static void expect(int holds, const char *fact, int line)
+{
+    if (!holds) {
+        printf("header: line %d: not so: %s\n", line, fact);
+        failures++;
+    }
+}
+
+/* A session's three parts, each between margins. */
+static struct {
+    uint64_t first[MARGIN];
+    struct jangsebit_order orders[JANGSEBIT_ORDERS];
+    uint64_t second[MARGIN];
+    uint64_t room[JANGSEBIT_ROOM];
+    uint64_t third[MARGIN];
+    uint8_t window[JANGSEBIT_WINDOW];
+    uint64_t fourth[MARGIN];
+} apart;
+
+static struct jangsebit held, before;
+
+static int all(const void *from, size_t size, uint8_t byte)
+{
+    const uint8_t *bytes = (const uint8_t *)from;
+    for (size_t k = 0; k < size; k++) {
+        if (bytes[k] != byte) {
+            return 0;
+        }
+    }
+    return 1;
+}
+
+static int unchanged(void)
+{
+    return memcmp(&held, &before, sizeof held) == 0;
+}
+
+static void sizes(void)
+{
+    memset(&apart, STALE, sizeof apart);
+    jangsebit_open(apart.orders, apart.room, apart.window, 0);
+    EXPECT(all(apart.orders, sizeof apart.orders, 0));
+    EXPECT(all(apart.room, sizeof apart.room, 0));
+    EXPECT(all(apart.window, sizeof apart.window, 0));
+    EXPECT(all(apart.first, sizeof apart.first, STALE));
+    EXPECT(all(apart.second, sizeof apart.second, STALE));
+    EXPECT(all(apart.third, sizeof apart.third, STALE));
+    EXPECT(all(apart.fourth, sizeof apart.fourth, STALE));
+}
+
+static const uint8_t *text(const char *from)
+{
+    return (const uint8_t *)from;
+}
+
+static void put(uint8_t *at, int width, uint64_t number)
+{
+    while (width > 0) {
+        at[--width] = (uint8_t)number;
+        number >>= 8;
+    }
+}
+
+#define FRAMED 69
+#define ADD (FRAMED - 2)
+
+/* One Add behind its length. */
+static void add(uint8_t framed[FRAMED], uint32_t number, const char *id, char side, uint32_t shares, uint64_t price)
+{
+    uint8_t *packet = framed + 2;
+    memset(framed, 0, FRAMED);
+    put(framed, 2, ADD);
+    put(packet, 2, ADD);
+    put(packet + 2, 4, number);
+    packet[7] = 1;
+    put(packet + 12, 2, ADD - 12);
+    packet[14] = 21;
+    memcpy(packet + 19, id, 14);
+    packet[33] = (uint8_t)side;
+    put(packet + 34, 4, shares);
+    memcpy(packet + 38, "JNGSB         ", 14);
+    put(packet + 52, 8, price);
+    memcpy(packet + 60, "MKR1", 4);
+    packet[64] = 'Y';
+}
+
+static void taking(void)
+{
+    uint8_t framed[FRAMED];
+    uint64_t applied = 99;
+    struct jangsebit_order order;
+    memset(&held, STALE, sizeof held);
+    jsb_open(&held, 10);
+    add(framed, 10, "000000000010ZZ", 'B', 300, 1250000);
+    EXPECT(jsb_take(&held, framed + 2, ADD, &applied) == JANGSEBIT_DONE && applied == 1);
+    EXPECT(jsb_numbers(&held).next == 11 && jsb_numbers(&held).end == 11 && jsb_numbers(&held).live == 1);
+    memset(&order, STALE, sizeof order);
+    EXPECT(jsb_order(&held, text("000000000010AA"), &order) == JANGSEBIT_DONE);
+    EXPECT(order.id == 36 && order.price == 1250000 && order.shares == 300 && order.side == JANGSEBIT_BID);
+    EXPECT(memcmp(order.firm, "MKR1", 4) == 0 && memcmp(order.symbol, "JNGSB         ", 14) == 0);
+    EXPECT(order.unsolicited == 'Y');
+    /* the fields lie in the table where the header has them */
+    EXPECT(memcmp(&held.orders[0], &order, sizeof order) == 0);
+    EXPECT(all(&held.orders[1], sizeof held.orders - sizeof order, 0));
+
+    before = held;
+    EXPECT(jsb_take(&held, framed + 2, 11, &applied) == JANGSEBIT_UNDER_HEADER && applied == 0 && unchanged());
+    EXPECT(jsb_take(&held, framed + 2, ADD - 1, &applied) == JANGSEBIT_SIZE_NOT_LENT && applied == 0 && unchanged());
+    EXPECT(jsb_take(&held, framed + 2, ADD, &applied) == JANGSEBIT_DONE && applied == 0 && unchanged());
+    /* with 11 still to come, 266 waits and 267 is too far */
+    add(framed, 267, "000000000020ZZ", 'B', 200, 1250000);
+    EXPECT(jsb_take(&held, framed + 2, ADD, &applied) == JANGSEBIT_PAST_WINDOW && applied == 0 && unchanged());
+    add(framed, 266, "000000000020ZZ", 'B', 200, 1250000);
+    EXPECT(jsb_take(&held, framed + 2, ADD, &applied) == JANGSEBIT_DONE && applied == 0);
+    EXPECT(jsb_numbers(&held).next == 11 && jsb_numbers(&held).end == 267);
+    before = held;
+    framed[2 + 64] = 'N';
+    EXPECT(jsb_take(&held, framed + 2, ADD, &applied) == JANGSEBIT_COPIES_DIFFER && applied == 0 && unchanged());
+    /* refused where it carries next, too */
+    add(framed, 11, "000000000030ZZ", 'B', 900, 1240000);
+    framed[2 + 6] = 0x80;
+    EXPECT(jsb_take(&held, framed + 2, ADD, &applied) == JANGSEBIT_RESERVED_FLAG && applied == 0 && unchanged());
+}
+
+static void bursts(void)
+{
+    uint8_t packets[4 * FRAMED];
+    struct jsb_answer answers[5];
+    struct jsb_taken taken;
+    uint64_t told[3] = {99, 99, 99};
+    add(packets, 11, "000000000020ZZ", 'B', 200, 1250000);
+    add(packets + FRAMED, 12, "000000000020ZZ", 'B', 1, 1);
+    add(packets + 2 * FRAMED, 13, "000000000030ZZ", 'B', 900, 1240000);
+    add(packets + 3 * FRAMED, 15, "000000000040ZZ", 'S', 700, 1260000);
+    jsb_open(&held, 10);
+    before = held;
+    memset(answers, STALE, sizeof answers);
+    taken = jsb_burst(&held, packets, 0, answers, 5);
+    EXPECT(taken.packets == 0 && taken.bytes == 0);
+    taken = jsb_burst(&held, packets, FRAMED - 1, answers, 5);
+    EXPECT(taken.packets == 0 && taken.bytes == 0);
+    taken = jsb_burst(&held, packets, sizeof packets, answers, 0);
+    EXPECT(taken.packets == 0 && taken.bytes == 0);
+    EXPECT(unchanged() && all(answers, sizeof answers, STALE));
+    /* the export itself refuses where a host says more than it lends for */
+    jangsebit_packets(
+        held.orders, held.room, held.window, packets, sizeof packets, 0, 4, (uint64_t *)(void *)answers, 15, told);
+    EXPECT(told[0] == JANGSEBIT_LENT_TOO_SHORT && told[1] == 0 && told[2] == 0);
+    EXPECT(unchanged() && all(answers, sizeof answers, STALE));
+
+    /* after the one that 10 brings: 12 names a live order, 14 is missing */
+    uint8_t first[FRAMED];
+    uint64_t applied = 0;
+    add(first, 10, "000000000010ZZ", 'B', 300, 1250000);
+    EXPECT(jsb_take(&held, first + 2, ADD, &applied) == JANGSEBIT_DONE && applied == 1);
+    taken = jsb_burst(&held, packets, sizeof packets, answers, 1);
+    EXPECT(taken.packets == 1 && taken.bytes == FRAMED && all(&answers[1], 4 * sizeof answers[1], STALE));
+    taken = jsb_burst(&held, packets + taken.bytes, sizeof packets - taken.bytes, answers + 1, 4);
+    EXPECT(taken.packets == 3 && taken.bytes == 3 * FRAMED);
+    EXPECT(answers[0].applied == 1 && answers[0].refusal == 0 && answers[0].next == 12 && answers[0].end == 12);
+    EXPECT(answers[3].applied == 0 && answers[3].refusal == 0 && answers[3].next == 14 && answers[3].end == 16);
+    EXPECT(all(&answers[4], sizeof answers[4], STALE));
+
+    struct jsb_numbers now = jsb_numbers(&held);
+    EXPECT(now.next == 14 && now.end == 16 && now.live == 3 && now.held == 0 && now.code == 0);
+    EXPECT(now.faults == 1 && now.fault == 12 && now.reason == JANGSEBIT_ALREADY_LIVE);
+}
+
+static void asking(void)
+{
+    static const uint8_t request[JANGSEBIT_REQUEST] = {0, 12, 'r', 0, 0, 0, 14, 0, 0, 0, 1, 'Y'};
+    const uint8_t *symbol = text("JNGSB         ");
+    struct jangsebit_order order;
+    struct jsb_inside inside;
+    struct jsb_quote quotes[4], quote;
+    struct jsb_question questions[3];
+    uint8_t buffer[JANGSEBIT_REQUESTS];
+    size_t count = 99;
+
+    before = held;
+    memset(&order, STALE, sizeof order);
+    EXPECT(jsb_order(&held, text("00000000001aZZ"), &order) == JANGSEBIT_BAD_QUESTION);
+    EXPECT(jsb_order(&held, text("000000000050ZZ"), &order) == JANGSEBIT_NOT_FOUND);
+    EXPECT(all(&order, sizeof order, STALE));
+
+    EXPECT(jsb_best(&held, symbol, JANGSEBIT_BID, &quote) == JANGSEBIT_DONE);
+    EXPECT(quote.refusal == 0 && quote.price == 1250000 && quote.shares == 500 && quote.orders == 2);
+    EXPECT(jsb_best(&held, symbol, JANGSEBIT_ASK, &quote) == JANGSEBIT_NOT_FOUND);
+    EXPECT(quote.refusal == 13 && quote.price == 0 && quote.shares == 0 && quote.orders == 0);
+    EXPECT(jsb_best(&held, text(" JNGSB        "), JANGSEBIT_BID, &quote) == JANGSEBIT_BAD_QUESTION);
+
+    memset(quotes, STALE, sizeof quotes);
+    for (int k = 0; k < 3; k++) {
+        memcpy(questions[k].symbol, symbol, sizeof questions[k].symbol);
+        questions[k].side = (uint8_t)"SXB"[k];
+    }
+    EXPECT(jsb_quotes(&held, questions, 3, quotes, 2) == JANGSEBIT_LENT_TOO_SHORT && all(quotes, sizeof quotes, STALE));
+    EXPECT(jsb_quotes(&held, questions, 3, quotes, 4) == JANGSEBIT_DONE);
+    EXPECT(quotes[0].refusal == 13 && quotes[1].refusal == 12 && quotes[2].refusal == 0 && quotes[2].shares == 500);
+    EXPECT(all(&quotes[3], sizeof quotes[3], STALE));
+
+    memset(&inside, STALE, sizeof inside);
+    EXPECT(jsb_inside(&held, text(" JNGSB        "), &inside) == JANGSEBIT_BAD_QUESTION);
+    EXPECT(jsb_inside(&held, symbol, &inside) == JANGSEBIT_NOT_FOUND && all(&inside, sizeof inside, STALE));
+
+    memset(buffer, STALE, sizeof buffer);
+    EXPECT(jsb_requests(&held, buffer, JANGSEBIT_REQUEST - 1, &count) == JANGSEBIT_LENT_TOO_SHORT && count == 0);
+    EXPECT(all(buffer, sizeof buffer, STALE));
+    EXPECT(jsb_requests(&held, buffer, sizeof buffer, &count) == JANGSEBIT_DONE && count == 1);
+    EXPECT(memcmp(buffer, request, sizeof request) == 0);
+    EXPECT(all(buffer + sizeof request, sizeof buffer - sizeof request, STALE));
+    EXPECT(jsb_gap(&held, 0).start == 14 && jsb_gap(&held, 0).count == 1);
+    EXPECT(jsb_gap(&held, 15).count == 0);
+    EXPECT(unchanged());
+}
+
+/* A Top of Book, with six numbers that all differ. */
+static void insides(void)
+{
+    uint8_t packet[58];
+    uint64_t applied = 0;
+    struct jsb_inside inside;
+    memset(packet, 0, sizeof packet);
+    put(packet, 2, sizeof packet);
+    packet[7] = 1;
+    put(packet + 12, 2, sizeof packet - 12);
+    packet[14] = 26;
+    put(packet + 15, 4, 77);
+    memcpy(packet + 19, "JNGSB         ", 14);
+    put(packet + 33, 8, 1260000);
+    put(packet + 41, 4, 900);
+    put(packet + 45, 8, 1250000);
+    put(packet + 53, 4, 500);
+    packet[57] = 'N';
+    jsb_open(&held, 0);
+    EXPECT(jsb_take(&held, packet, sizeof packet, &applied) == JANGSEBIT_DONE && applied == 1);
+    EXPECT(jsb_numbers(&held).held == 1);
+    EXPECT(jsb_inside(&held, text("JNGSB         "), &inside) == JANGSEBIT_DONE);
+    EXPECT(inside.ask == 1260000 && inside.bid == 1250000 && inside.time == 77);
+    EXPECT(inside.ask_volume == 900 && inside.bid_volume == 500 && inside.unsolicited == 'N');
+}
+
+int main(void)
+{
+    EXPECT(jangsebit_version() == JANGSEBIT_VERSION);
+    sizes();
+    taking();
+    bursts();
+    asking();
+    insides();
+    EXPECT(strcmp(jsb_refusal_words(19), "a sum would grow too large") == 0);
+    EXPECT(strcmp(jsb_refusal_words(20), "no refusal has this number") == 0);
+    EXPECT(strcmp(jsb_fault_words(JANGSEBIT_INSIDES_FULL), "no room for another inside") == 0);
+    EXPECT(strcmp(jsb_fault_words(9), "no fault has this number") == 0);
+    return failures != 0;
+}
