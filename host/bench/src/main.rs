@@ -4,6 +4,7 @@
 
 mod questions;
 mod timing;
+mod whole;
 
 use compare::capture::Capture;
 use compare::feed::{self, Lines};
@@ -75,6 +76,7 @@ fn main() {
         packets_of(name, &capture, rounds);
     }
     questions::measure(rounds);
+    questions::keeping(rounds);
 }
 
 /// All packets of a capture: one a call, and in bursts.
@@ -123,6 +125,7 @@ fn packets_of(name: &str, capture: &Capture, rounds: usize) {
         };
         row(&name, library.typical() / count, twin.typical() / count);
     }
+    whole::measure(capture, rounds);
 }
 
 /// The packets of each piece of a capture; a burst is not cut.

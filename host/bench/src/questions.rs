@@ -183,6 +183,37 @@ pub fn measure(rounds: usize) {
     );
 }
 
+/// Packets ahead of next, which are judged and kept and apply nothing.
+pub fn keeping(rounds: usize) {
+    let capture = feed::lines(SEED, OPENING, 60, &CLEAN, Manners::plain());
+    let ahead: Vec<&[u8]> = capture.packets().skip(1).collect();
+    let mut library = Session::open(OPENING);
+    let mut times = (Vec::new(), Vec::new());
+    for _ in 0..rounds * 20 {
+        library.reopen(OPENING);
+        let mut twin = Box::new(twin::Session::open(OPENING));
+        let mine = timed(|| {
+            for packet in black_box(&ahead) {
+                let _ = black_box(library.take(packet));
+            }
+        });
+        let other = timed(|| {
+            for packet in black_box(&ahead) {
+                let _ = black_box(twin.take(packet));
+            }
+        });
+        let numbers = library.numbers();
+        assert_eq!((numbers.next, numbers.end), (twin.next(), twin.end()));
+        times.0.push(mine / ahead.len() as f64);
+        times.1.push(other / ahead.len() as f64);
+    }
+    row(
+        "keeping alone",
+        typical(&mut times.0),
+        typical(&mut times.1),
+    );
+}
+
 /// The next of a list that is gone round.
 fn next<'a, T: 'a>(list: &mut impl Iterator<Item = &'a T>) -> &'a T {
     list.next().expect("the list is not empty")
