@@ -1,10 +1,9 @@
 // The order table and the inside table: what a message does to them, and what can be asked of them.
 //
 // specs/Applying.antt says what a message does: the lowest fault that holds is recorded and changes
-// nothing else. `deciding` works that out for each kind of message, and the room carries it out in place,
-// with `lookup` and `reading`. `asking` has the questions, each answered for every argument
-// (specs/Asking.antt). The rule of a book, `Kept` of specs/Rule.antt, is what `Book::fresh` gives and
-// every message keeps.
+// nothing else. `deciding` works that out on small values; `book_room` and the session carry it out,
+// with `lookup` and `reading`. `asking` has the replies to the questions (specs/Asking.antt). The rule
+// of the tables in their places is `Kept` of specs/Rule.antt: an opening gives it, every message keeps it.
 pub mod asking;
 pub mod deciding;
 mod judging;
