@@ -63,7 +63,7 @@ enum jangsebit_side {
     JANGSEBIT_ASK = 'S'
 };
 
-/* Why a call refused; `jsb_refusal_words` has a word for each. Calls of this version give 1 to 14. */
+/* Why a call refused; `jsb_refusal_words` has a word for each. */
 enum jangsebit_refusal {
     JANGSEBIT_DONE = 0,
     JANGSEBIT_UNDER_HEADER = 1,
@@ -79,12 +79,7 @@ enum jangsebit_refusal {
     JANGSEBIT_LENT_TOO_SHORT = 11,
     JANGSEBIT_BAD_QUESTION = 12,
     JANGSEBIT_NOT_FOUND = 13,
-    JANGSEBIT_FIELD_RULE = 14,
-    JANGSEBIT_NOT_RISING = 15,
-    JANGSEBIT_PRICE_TOO_LARGE = 16,
-    JANGSEBIT_NO_FREE_LINE = 17,
-    JANGSEBIT_TRADES_FULL = 18,
-    JANGSEBIT_SUM_TOO_LARGE = 19
+    JANGSEBIT_FIELD_RULE = 14
 };
 
 /* Why a message that was applied changed nothing; `jsb_fault_words` has a word for each. */
@@ -447,11 +442,6 @@ static inline const char *jsb_refusal_words(uint64_t refusal)
         "bad id, symbol or side",
         "nothing there by that name",
         "a field breaks its rule",
-        "numbers do not rise by one",
-        "price too large for an exact quotient",
-        "no line is free",
-        "the line can count no more trades",
-        "a sum would grow too large",
     };
     return refusal < sizeof words / sizeof words[0] ? words[refusal] : "no refusal has this number";
 }

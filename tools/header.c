@@ -264,8 +264,8 @@ int main(void)
     bursts();
     asking();
     insides();
-    EXPECT(strcmp(jsb_refusal_words(19), "a sum would grow too large") == 0);
-    EXPECT(strcmp(jsb_refusal_words(20), "no refusal has this number") == 0);
+    EXPECT(strcmp(jsb_refusal_words(14), "a field breaks its rule") == 0);
+    EXPECT(strcmp(jsb_refusal_words(15), "no refusal has this number") == 0);
     EXPECT(strcmp(jsb_fault_words(JANGSEBIT_INSIDES_FULL), "no room for another inside") == 0);
     EXPECT(strcmp(jsb_fault_words(9), "no fault has this number") == 0);
     return failures != 0;
