@@ -4,7 +4,6 @@ use crate::tables::Order;
 use fields::id::IdValue;
 use fields::parts::NONE;
 use fields::parts::value_with;
-use message::layouts;
 ghost use mathlib.Core.Path.{_≡_};
 ghost use Prim.Native.Nat.{_≤_};
 ghost use lib.ListN.{length};
@@ -19,7 +18,7 @@ pub fn key_at(digits: &[u8; 256], bytes: &[u8]) -> u64
     requires { ⌜ (now digits ≡ digitTable) × (21 ≤ length (now bytes)) ⌝ }
     ensures { λ r. ⌜ r ≡ numberOf (part (now (bytes .entry)) 7 14) ⌝ }
 {
-    let fields = layouts::delete(bytes);
+    let fields = message_layouts::delete(bytes);
     let id = fields.id;
     match value_with(digits, id) {
         IdValue::Value(key) => key,
@@ -32,7 +31,7 @@ pub fn order_of(bytes: &[u8], key: u64) -> Order
     requires { ⌜ Naming 55 (now bytes) key ⌝ }
     ensures { λ r. ⌜ r ≡ orderOf (fieldsOf 21 (now (bytes .entry))) ⌝ }
 {
-    let fields = layouts::add(bytes);
+    let fields = message_layouts::add(bytes);
     let firm = fields.firm;
     let symbol = fields.symbol;
     Order {
@@ -51,7 +50,7 @@ pub fn inside_of(bytes: &[u8]) -> Inside
     requires { ⌜ 46 ≤ length (now bytes) ⌝ }
     ensures { λ r. ⌜ r ≡ insideOf (fieldsOf 26 (now (bytes .entry))) ⌝ }
 {
-    let fields = layouts::top(bytes);
+    let fields = message_layouts::top(bytes);
     let symbol = fields.symbol;
     Inside {
         ask: fields.ask,

@@ -5,7 +5,6 @@ use crate::room::INDEX;
 use crate::room::KEYS;
 use crate::room::LIVE;
 use crate::room::SYMBOLS;
-use book::deciding;
 use book::deciding::Effect;
 use book::lookup::Found;
 use book::reading::key_at;
@@ -42,7 +41,7 @@ pub fn add(room: &mut [u64], digits: &[u8; 256], bytes: &[u8], number: u64) -> P
     let key = key_at(digits, bytes);
     let order = found(room, key);
     let live = room[LIVE] as usize;
-    match deciding::add(bytes, key, order, live) {
+    match book_deciding::add(bytes, key, order, live) {
         Effect::Fault(reason) => {
             mark(room, number, reason);
             Put::Nothing

@@ -5,7 +5,6 @@ use crate::room::INDEX;
 use crate::room::KEYS;
 use crate::room::LIVE;
 use crate::room::SYMBOLS;
-use book::deciding;
 use book::deciding::Effect;
 use book::lookup::Found;
 use book::reading::key_at;
@@ -73,7 +72,7 @@ pub fn change(
     ensures { λ r. ⌜ ((next end : ℕ) (b : Book) → Known (now (room .entry)) next end b number (now (bytes .entry)) named shares price → Changed (now (room .exit)) next end b number (now (bytes .entry)) r) ⌝ }
 {
     let order = named.order;
-    match deciding::change(bytes, named.key, order, shares, price) {
+    match book_deciding::change(bytes, named.key, order, shares, price) {
         Effect::Replace(place, left, at) => Act::Replace(place, left, at),
         Effect::Remove(place) => {
             let last = remove(room, place);

@@ -8,7 +8,6 @@ use crate::room::HELD;
 use crate::room::ROW;
 use crate::room::ROWS;
 use crate::room::SYMBOLS;
-use book::deciding;
 use book::deciding::Effect;
 use book::lookup::Found;
 use book::lookup::back;
@@ -77,7 +76,7 @@ pub fn tell(room: &mut [u64], bytes: &[u8], number: u64)
 {
     let held = room[HELD] as usize;
     let inside = told(room, bytes);
-    match deciding::tell(bytes, inside, held) {
+    match book_deciding::tell(bytes, inside, held) {
         Effect::Renew(place) => {
             let made = inside_of(bytes);
             write(room, place, made);

@@ -56,5 +56,5 @@ pub fn message(line: &[u8]) {
         return bad();
     }
     let count = got.count;
-    answers::message(message::read(&lent[0..count]), false);
+    answers::message(message_read::read(&lent[0..count]), false);
 }

@@ -35,7 +35,7 @@ pub fn rewrite(line: &[u8]) {
 fn rewrite_in(lent: &[u8], at: usize, room: usize)
     requires { ⌜ room ≤ 2048 ⌝ }
 {
-    let answer = message::read(lent);
+    let answer = message_read::read(lent);
     let verdict = answer.verdict;
     match verdict {
         Verdict::Refused(number) => refused(number),

@@ -25,7 +25,7 @@ pub fn case(line: &[u8]) {
     if length <= 256 {
         put(rows::label(line));
         colon();
-        answers::message(message::read(&bytes[0..length]), true);
+        answers::message(message_read::read(&bytes[0..length]), true);
     }
 }
 

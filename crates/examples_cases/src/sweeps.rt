@@ -61,7 +61,7 @@ fn message_mark(size: u8, kind: u8) {
     bytes[1] = size;
     bytes[2] = kind;
     let end = size as usize;
-    let answer = message::read(&bytes[0..end]);
+    let answer = message_read::read(&bytes[0..end]);
     let verdict = answer.verdict;
     match verdict {
         Verdict::Accepted => put(b"-"),

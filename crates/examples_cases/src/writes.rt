@@ -33,7 +33,7 @@ pub fn case(line: &[u8]) {
 
 fn write(good: &[u8], buffer: &mut [u8], room: usize, at: usize) {
     if room <= buffer.len() {
-        let answer = message::read(good);
+        let answer = message_read::read(good);
         written(message_write::write(answer.message, &mut buffer[0..room], at));
     }
 }
@@ -44,7 +44,7 @@ fn back(buffer: &[u8], size: usize, at: usize) {
         if size <= buffer.len() - at {
             let end = at + size;
             put(b"  read back: ");
-            answers::message(message::read(&buffer[at..end]), true);
+            answers::message(message_read::read(&buffer[at..end]), true);
         }
     }
 }

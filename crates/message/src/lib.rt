@@ -1,21 +1,16 @@
-// One message of the overnight channels.
+// One message of the overnight channels: its kinds, its fields by type, and the payload sizes.
 //
-// `read` answers for every byte string, of any length, as document 01 says: 7, then 14, else the
-// fields (specs/Reading.antt). `write` puts a message at a place in a lent buffer, or answers 14,
-// then 11, and every other byte stays (specs/Writing.antt). The payloads, the layouts and the field
-// rules stand in specs/, one file each, and reading and writing go along the same layouts: what is
-// written reads back, and what was read is written back to its own bytes (proofs/Trips.antt).
-// `layouts`, `parts`, `rules` and `table` have what other crates share.
+// The payloads, the layouts, the field rules and reading stand in specs/, one file each. `message_read` has the call that
+// reads one message, `message_write` the one that writes one, both along the same layouts: what is written reads back, and
+// what was read is written back to its own bytes (message_write/proofs/Trips.antt). `message_layouts` reads the fields of a
+// type and `message_rules` tests them, for reading and for the tables.
 mod answer;
 mod kinds;
 pub mod layouts;
-pub mod parts;
-pub mod rules;
 pub mod table;
 
 pub use answer::Reading;
 pub use answer::Verdict;
-pub use answer::read;
 pub use kinds::Body;
 pub use kinds::Message;
 pub use kinds::Terms;

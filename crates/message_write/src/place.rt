@@ -10,7 +10,6 @@ ghost use Rattle.message_write.specs.Writing.{answerOf, bufferAfter, mes
 use message::Body;
 use message::Message;
 use message::Terms;
-use message::rules;
 use message::table;
 use message_put::put;
 use wire::Written;
@@ -66,7 +65,7 @@ fn judge(message: Message, kind: u8, n: usize, at: usize) -> Written
     if kind == 0 {
         return Written::Refused(14);
     }
-    if rules::good(message) {
+    if message_rules::good(message) {
         let size = size_of(kind);
         if n < at {
             return Written::Refused(11);

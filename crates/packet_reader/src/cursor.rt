@@ -49,7 +49,7 @@ fn size_at(s: &[u8], cursor: Cursor) -> usize
     if s.len() < at {
         return 0;
     }
-    packet::walk::step(s, at)
+    packet_judge::walk::step(s, at)
 }
 
 // The message at a cursor.

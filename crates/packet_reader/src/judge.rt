@@ -6,7 +6,7 @@ ghost use Rattle.packet_reader.specs.Reading.{refusalOf};
 pub fn judge(s: &[u8]) -> u8
     ensures { λ r. ⌜ r ≡ refusalOf (now (s .entry)) ⌝ }
 {
-    let said = packet::judge::judge(s);
+    let said = packet_judge::judge(s);
     if said.test == 8 {
         return 0;
     }

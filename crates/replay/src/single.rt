@@ -109,7 +109,7 @@ pub extern "C" fn replay_message(
     ensures buffer { λ r. ⌜ now (buf .exit) ≡ backBuffer (readOf (now (bytes .entry))) (now (buf .entry)) at ⌝ }
     ensures refusals { λ r. ⌜ now (refusals .exit) ≡ backRefusals (readOf (now (bytes .entry))) (now (buf .entry)) at (now (refusals .entry)) ⌝ }
 {
-    let reading = message::read(bytes);
+    let reading = message_read::read(bytes);
     let verdict = reading.verdict;
     match verdict {
         Verdict::Refused(number) => {

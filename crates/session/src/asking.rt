@@ -26,7 +26,7 @@ use book_room::room::ROWS;
 use book_room::room::Room;
 use fields::id::IdValue;
 use fields::id::value;
-use fields::rules::good_symbol;
+use fields_rules::good_symbol;
 use window::asking::Asked;
 use window::missing::Gap;
 use window::places::NUMBERS;

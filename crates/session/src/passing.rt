@@ -6,7 +6,7 @@ use book_room::room::Room;
 use packet::HEADER;
 use packet::header;
 use window::places::Window;
-use window_taking::admitting::admit;
+use window_admitting::admit;
 ghost use mathlib.Core.Path.{_≡_};
 ghost use lib.ListN.{length};
 ghost use Rattle.session.specs.Meaning.{held, rep, view, Ruled};

@@ -1,15 +1,4 @@
-// Parts: one packet judged by 1 to 10 and, if none applies, kept or applied straight from its bytes.
-use crate::differing::differs;
-use crate::keeping::keep_all;
-use packet::header;
-use packet::judge;
-use window::places::NUMBERS;
-use window::places::Window;
-use wire::most;
-ghost use mathlib.Core.Path.{_≡_};
-ghost use mathlib.Core.Bool.{_&&_};
-ghost use lib.Dec.{eqb};
-ghost use Rattle.window_taking.specs.Keeping.{stateOf, windowFor, Neat, Known, admittedOf, heldBy};
+// Part: what judging one packet answers; `window_admitting` judges it.
 
 // The test that refuses a packet, 0 where none does, end behind it, and how many of its messages are
 // applied straight from it.
@@ -17,54 +6,4 @@ pub struct Admitted {
     pub refusal: u8,
     pub end: u64,
     pub direct: usize,
-}
-
-fn answer(refusal: u8, end: u64, direct: usize) -> Admitted
-    ensures { λ r. ⌜ r ≡ record { refusal = refusal; end = end; direct = direct } ⌝ }
-{
-    Admitted {
-        refusal,
-        end,
-        direct,
-    }
-}
-
-// Nothing is known beyond next, and the packet starts there.
-fn straight(next: u64, end: u64, first: u64) -> bool
-    ensures { λ r. ⌜ r ≡ (eqb end next && eqb first next) ⌝ }
-{
-    if end == next { first == next } else { false }
-}
-
-pub fn admit(window: &mut Window, next: u64, end: u64, s: &[u8]) -> Admitted
-    requires { ⌜ Neat (now window) next ⌝ }
-    requires { ⌜ Known (now window) next end ⌝ }
-    ensures answer { λ r. ⌜ r ≡ admittedOf (stateOf (now (window .entry)) next end) (now (s .entry)) ⌝ }
-    ensures kept { λ r. ⌜ now (window .exit) ≡ windowFor (heldBy (stateOf (now (window .entry)) next end) (now (s .entry)) .waiting) next ⌝ }
-{
-    let judged = judge::judge(s);
-    if judged.test != 0 {
-        return answer(judged.test, end, 0);
-    }
-    let head = header::fields(s);
-    let first = head.seq as u64;
-    let messages = head.messages;
-    if head.flag % 2 == 1 {
-        return answer(0, most(end, first), 0);
-    }
-    let stop = first + (messages as u64);
-    if next + NUMBERS < stop {
-        return answer(9, end, 0);
-    }
-    if stop <= next {
-        return answer(0, most(end, stop), 0);
-    }
-    if straight(next, end, first) {
-        return answer(0, most(end, stop), messages as usize);
-    }
-    if differs(window, next, s, first, messages) {
-        return answer(10, end, 0);
-    }
-    keep_all(window, next, s, first, messages);
-    answer(0, most(end, stop), 0)
 }

@@ -1,0 +1,16 @@
+-- `one_of` answers as `either` does, by the outcome of its first test.
+use borrow.Author.Tests.{eq-eqb, ne-eqb}
+use Rattle.fields.specs.Tests.{either}
+use Rattle.fields_rules.proofs.one_of.Statement.{statement}
+use Rattle.fields_rules.proofs.one_of.Tie as tie
+
+returns : tie.Need-returns
+unfolding either
+returns c = simp (eq-eqb _ _ (c .if1 .taken))
+
+returns-2 : tie.Need-returns-2
+unfolding either
+returns-2 c = simp (ne-eqb _ _ (c .if1 .left))
+
+pub one-of-spec : {M : Type 1} → statement M
+one-of-spec = tie.close (tie.spec returns returns-2)

@@ -1,0 +1,23 @@
+-- The fields of an Order Add are the values of its row.
+-- Assumes nothing.
+use Rattle.wire.proofs.Layouts.{within}
+use Rattle.message_layouts.proofs.add.Statement.{statement}
+use Rattle.message_layouts.proofs.add.Tie as tie
+
+returns : tie.Need-returns
+returns c = cc
+
+pub add-spec : {M : Type 1} → statement M
+add-spec =
+    tie.close
+    (tie.spec
+    (λ c κs. within tt (c .before .pre))
+    (λ c κs. within tt (c .before .before .pre))
+    (λ c κs. within tt (c .before .before .before .pre))
+    (λ c κs. within tt (c .before .before .before .before .pre))
+    (λ c κs. within tt (c .before .before .before .before .before .pre))
+    (λ c κs. within tt (c .before .before .before .before .before .before .pre))
+    (λ c κs. within tt (c .before .before .before .before .before .before .before .pre))
+    (λ c κs. within tt (c .before .before .before .before .before .before .before .before .pre))
+    (λ c κs. within tt (c .before .before .before .before .before .before .before .before .before .pre))
+    returns)

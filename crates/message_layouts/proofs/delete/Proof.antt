@@ -1,0 +1,16 @@
+-- The fields of an Order Delete are the values of its row.
+-- Assumes nothing.
+use Rattle.wire.proofs.Layouts.{within}
+use Rattle.message_layouts.proofs.delete.Statement.{statement}
+use Rattle.message_layouts.proofs.delete.Tie as tie
+
+returns : tie.Need-returns
+returns c = cc
+
+pub delete-spec : {M : Type 1} → statement M
+delete-spec =
+    tie.close
+    (tie.spec
+    (λ c κs. within tt (c .before .pre))
+    (λ c κs. within tt (c .before .before .pre))
+    returns)

@@ -1,0 +1,21 @@
+-- The fields of a Top of Book are the values of its row.
+-- Assumes nothing.
+use Rattle.wire.proofs.Layouts.{within}
+use Rattle.message_layouts.proofs.top.Statement.{statement}
+use Rattle.message_layouts.proofs.top.Tie as tie
+
+returns : tie.Need-returns
+returns c = cc
+
+pub top-spec : {M : Type 1} → statement M
+top-spec =
+    tie.close
+    (tie.spec
+    (λ c κs. within tt (c .before .pre))
+    (λ c κs. within tt (c .before .before .pre))
+    (λ c κs. within tt (c .before .before .before .pre))
+    (λ c κs. within tt (c .before .before .before .before .pre))
+    (λ c κs. within tt (c .before .before .before .before .before .pre))
+    (λ c κs. within tt (c .before .before .before .before .before .before .pre))
+    (λ c κs. within tt (c .before .before .before .before .before .before .before .pre))
+    returns)

@@ -1,0 +1,160 @@
+// Parts: the field rules of a whole message. Each function answers the offset of the first field that
+// breaks its rule, 0 where none does. Every test is worked out, so the code stays straight. Of an id
+// they take whether it keeps its rule: who has its value knows that already.
+ghost use mathlib.Core.Path.{_≡_};
+ghost use mathlib.Core.List.{[], _∷_, map};
+ghost use Rattle.fields.specs.Rules.{goodSymbol, goodSide, goodTradeSide, goodQuantity, goodPrice, goodInsidePrice, goodUnsolicited, goodSession};
+ghost use Rattle.message.specs.Row.{priceOf, typeOfTerms};
+ghost use Rattle.message.specs.Rules.{brokenBy, brokenOf, firstAt, goodMessage, number};
+use fields::id::good_id;
+use fields_rules::good_inside_price;
+use fields_rules::good_price;
+use fields_rules::good_quantity;
+use fields_rules::good_session;
+use fields_rules::good_side;
+use fields_rules::good_symbol;
+use fields_rules::good_trade_side;
+use fields_rules::good_unsolicited;
+use message::Body;
+use message::Message;
+use message::Terms;
+
+// Where the field at `at` keeps its rule, what the fields behind it answer.
+fn first(kept: bool, at: u8, behind: u8) -> u8
+    ensures { λ r. ⌜ r ≡ firstAt kept at behind ⌝ }
+{
+    if kept { behind } else { at }
+}
+
+pub fn trading_session(session: u8) -> u8
+    ensures { λ r. ⌜ r ≡ brokenBy 20 (goodSession session ∷ []) ⌝ }
+{
+    first(good_session(session), 11, 0)
+}
+
+pub fn add(
+    named: bool,
+    side: u8,
+    quantity: u32,
+    symbol: [u8; 14],
+    price: u64,
+    unsolicited: u8,
+) -> u8
+    ensures { λ r. ⌜ r ≡ brokenBy 21 (named ∷ goodSide side ∷ goodQuantity quantity ∷ goodSymbol symbol ∷ goodPrice price ∷ goodUnsolicited unsolicited ∷ []) ⌝ }
+{
+    let told = first(good_unsolicited(unsolicited), 52, 0);
+    let priced = first(good_price(price), 40, told);
+    let about = first(good_symbol(symbol), 26, priced);
+    let sized = first(good_quantity(quantity), 22, about);
+    let sided = first(good_side(side), 21, sized);
+    first(named, 7, sided)
+}
+
+pub fn update(named: bool, quantity: u32, price: u64) -> u8
+    ensures { λ r. ⌜ r ≡ brokenBy 22 (named ∷ goodQuantity quantity ∷ goodPrice price ∷ []) ⌝ }
+{
+    let priced = first(good_price(price), 25, 0);
+    let sized = first(good_quantity(quantity), 21, priced);
+    first(named, 7, sized)
+}
+
+pub fn delete(named: bool) -> u8
+    ensures { λ r. ⌜ r ≡ brokenBy 23 (named ∷ []) ⌝ }
+{
+    first(named, 7, 0)
+}
+
+pub fn execution(named: bool, executed: u32) -> u8
+    ensures { λ r. ⌜ r ≡ brokenBy 24 (named ∷ goodQuantity executed ∷ []) ⌝ }
+{
+    let sized = first(good_quantity(executed), 21, 0);
+    first(named, 7, sized)
+}
+
+pub fn priced(named: bool, executed: u32, price: u64) -> u8
+    ensures { λ r. ⌜ r ≡ brokenBy 25 (named ∷ goodQuantity executed ∷ goodPrice price ∷ []) ⌝ }
+{
+    let priced = first(good_price(price), 37, 0);
+    let sized = first(good_quantity(executed), 21, priced);
+    first(named, 7, sized)
+}
+
+pub fn top(symbol: [u8; 14], ask: u64, bid: u64, unsolicited: u8) -> u8
+    ensures { λ r. ⌜ r ≡ brokenBy 26 (goodSymbol symbol ∷ goodInsidePrice ask ∷ goodInsidePrice bid ∷ goodUnsolicited unsolicited ∷ []) ⌝ }
+{
+    let told = first(good_unsolicited(unsolicited), 45, 0);
+    let bidden = first(good_inside_price(bid), 33, told);
+    let asked = first(good_inside_price(ask), 21, bidden);
+    first(good_symbol(symbol), 7, asked)
+}
+
+pub fn trade(side: u8, quantity: u32, symbol: [u8; 14], price: u64) -> u8
+    ensures { λ r. ⌜ r ≡ brokenBy 27 (goodTradeSide side ∷ goodQuantity quantity ∷ goodSymbol symbol ∷ goodPrice price ∷ []) ⌝ }
+{
+    let priced = first(good_price(price), 26, 0);
+    let about = first(good_symbol(symbol), 12, priced);
+    let sized = first(good_quantity(quantity), 8, about);
+    first(good_trade_side(side), 7, sized)
+}
+
+// An execution, at the published price or at its own.
+fn of_execution(named: bool, executed: u32, terms: Terms) -> u8
+    ensures { λ r. ⌜ r ≡ brokenBy (typeOfTerms terms) (named ∷ goodQuantity executed ∷ map (number goodPrice) (priceOf terms)) ⌝ }
+{
+    match terms {
+        Terms::Published => execution(named, executed),
+        Terms::Own(price) => priced(named, executed, price),
+    }
+}
+
+pub fn broken(message: Message) -> u8
+    ensures { λ r. ⌜ r ≡ brokenOf message ⌝ }
+{
+    let id = message.id;
+    let symbol = message.symbol;
+    let body = message.body;
+    match body {
+        Body::Security { .. } => 0,
+        Body::SpinStart { .. } => 0,
+        Body::SpinEnd { .. } => 0,
+        Body::TradingSession { session, .. } => trading_session(session),
+        Body::Add {
+            side,
+            quantity,
+            price,
+            unsolicited,
+            ..
+        } => add(good_id(id), side, quantity, symbol, price, unsolicited),
+        Body::Update {
+            quantity,
+            price,
+            ..
+        } => update(good_id(id), quantity, price),
+        Body::Delete { .. } => delete(good_id(id)),
+        Body::Execution {
+            executed,
+            terms,
+            ..
+        } => of_execution(good_id(id), executed, terms),
+        Body::Top {
+            ask,
+            bid,
+            unsolicited,
+            ..
+        } => top(symbol, ask, bid, unsolicited),
+        Body::Trade {
+            side,
+            quantity,
+            price,
+            ..
+        } => trade(side, quantity, symbol, price),
+        Body::Other(_) => 0,
+    }
+}
+
+// No field rule is broken.
+pub fn good(message: Message) -> bool
+    ensures { λ r. ⌜ r ≡ goodMessage message ⌝ }
+{
+    broken(message) == 0
+}
