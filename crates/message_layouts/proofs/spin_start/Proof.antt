@@ -5,7 +5,10 @@ use Rattle.message_layouts.proofs.spin_start.Statement.{statement}
 use Rattle.message_layouts.proofs.spin_start.Tie as tie
 
 returns : tie.Need-returns
-returns c = cc
+returns c =
+    let time = c .before in
+    let spin = time .before in
+    λ i. record { spin = spin .u8-at .ensures i; time = time .u64-at .ensures i; last = c .u32-at .ensures i }
 
 pub spin-start-spec : {M : Type 1} → statement M
 spin-start-spec =

@@ -5,7 +5,9 @@ use Rattle.message_layouts.proofs.trading_session.Statement.{statement}
 use Rattle.message_layouts.proofs.trading_session.Tie as tie
 
 returns : tie.Need-returns
-returns c = cc
+returns c =
+    let time = c .before in
+    λ i. record { time = time .u64-at .ensures i; session = c .u8-at .ensures i }
 
 pub trading-session-spec : {M : Type 1} → statement M
 trading-session-spec =
