@@ -28,9 +28,12 @@ use Rattle.message.specs.declared.kinds.Body.{Body}
 pub kind-is : (m : Message) {b : Body} {r : ℕ} → m .body ≡ b → r ≡ brokenOf (record { id = m .id; symbol = m .symbol; firm = m .firm; body = b }) → r ≡ brokenOf m
 kind-is m e h = h ∙ ap (λ (b : Body). brokenOf (record { id = m .id; symbol = m .symbol; firm = m .firm; body = b })) (sym e)
 
--- the first test by what it comes to
+-- the first test by what it comes to, and the tests behind it
+pub first-is : {r behind last : ℕ} {k t : Bool} (at : ℕ) → r ≡ firstAt k at behind → k ≡ t → behind ≡ last → r ≡ firstAt t at last
+first-is at r e rest = r ∙ (λ i. firstAt (e i) at (rest i))
+
 pub tested : {r : ℕ} {k t : Bool} (at behind : ℕ) → r ≡ firstAt k at behind → k ≡ t → r ≡ firstAt t at behind
-tested at behind r e = cc
+tested at behind r e = first-is at r e refl
 
 -- an execution by its terms, and in a message
 pub terms-are : {terms t : Terms} {r : ℕ} (named : Bool) (executed : ℕ) → terms ≡ t → r ≡ brokenBy (typeOfTerms t) (named ∷ goodQuantity executed ∷ map (number goodPrice) (priceOf t)) → r ≡ brokenBy (typeOfTerms terms) (named ∷ goodQuantity executed ∷ map (number goodPrice) (priceOf terms))
