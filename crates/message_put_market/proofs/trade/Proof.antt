@@ -2,8 +2,8 @@
 -- Assumes nothing.
 use Rattle.wire.proofs.Layouts.{parts-row}
 use borrow.Author.Needs.{needs}
-use Rattle.message_put.proofs.put.trade.Statement.{statement}
-use Rattle.message_put.proofs.put.trade.Tie as tie
+use Rattle.message_put_market.proofs.trade.Statement.{statement}
+use Rattle.message_put_market.proofs.trade.Tie as tie
 
 returns : tie.Need-returns
 returns c = parts-row _ _ _ _ _ _ (search needs) (search needs) (c .before .before .before .before .before .before .trade-front .ensures) (c .before .before .trade-back .ensures)

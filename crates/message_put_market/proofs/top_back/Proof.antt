@@ -2,8 +2,8 @@
 -- Assumes nothing.
 use Rattle.wire.proofs.Layouts.{puts-row, then}
 use borrow.Author.Needs.{needs}
-use Rattle.message_put.proofs.put.top_back.Statement.{statement}
-use Rattle.message_put.proofs.put.top_back.Tie as tie
+use Rattle.message_put_market.proofs.top_back.Statement.{statement}
+use Rattle.message_put_market.proofs.top_back.Tie as tie
 
 returns : tie.Need-returns
 returns c = puts-row _ _ _ _ tt (search needs) (then _ _ (then _ _ (c .before .before .before .before .before .before .before .before .before .before .put-u64 .ensures) (c .before .before .before .before .before .before .put-u32 .ensures)) (c .before .before .put-u8 .ensures))

@@ -2,8 +2,8 @@
 -- Assumes nothing.
 use Rattle.wire.proofs.Layouts.{parts-row}
 use borrow.Author.Needs.{needs}
-use Rattle.message_put.proofs.put.top.Statement.{statement}
-use Rattle.message_put.proofs.put.top.Tie as tie
+use Rattle.message_put_market.proofs.top.Statement.{statement}
+use Rattle.message_put_market.proofs.top.Tie as tie
 
 returns : tie.Need-returns
 returns c = parts-row _ _ _ _ _ _ (search needs) (search needs) (c .before .before .before .before .before .before .top-front .ensures) (c .before .before .top-back .ensures)
