@@ -19,6 +19,8 @@ ghost use Rattle.message.specs.Row.{fieldsOf};
 ghost use Rattle.message.specs.Whole.{Whole};
 ghost use Rattle.book.specs.Applying.{Keyed, Naming, Seen, messageIn, names, effectOf};
 
+pub mod reading;
+
 // 21, an Order Add.
 pub fn add(bytes: &[u8], key: u64, order: Found, live: usize) -> Effect
     requires { ⌜ Naming 55 (now bytes) key ⌝ }

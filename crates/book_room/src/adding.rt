@@ -7,7 +7,7 @@ use crate::room::LIVE;
 use crate::room::SYMBOLS;
 use book::deciding::Effect;
 use book::lookup::Found;
-use book::reading::key_at;
+use book_deciding::reading::key_at;
 ghost use mathlib.Core.Path.{_≡_};
 ghost use Prim.Native.Nat.{ℕ, _+_};
 ghost use lib.ListN.{set};

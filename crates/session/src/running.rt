@@ -1,8 +1,8 @@
 // Parts: the engine. It holds the order table, and writes nothing but what a packet or a message changes.
 use crate::state::Session;
 use book::lookup::place_found;
-use book::reading::order_of;
 use book::tables::no_order;
+use book_deciding::reading::order_of;
 use book_room::adding::Put;
 use book_room::adding::add;
 use book_room::changing::Act;

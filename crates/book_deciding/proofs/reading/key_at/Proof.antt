@@ -1,12 +1,12 @@
 -- The id's value by the case of its answer.
 -- Assumes nothing.
 use Rattle.book.proofs.Types.{answer-value, answer-refused}
 use mathlib.Core.Path.{_∙_, ap}
 use Rattle.fields.specs.Id.{numberOf}
 use Rattle.message.specs.declared.layouts.DeleteFields.{DeleteFields}
 use borrow.Author.Needs.{needs}
-use Rattle.book.proofs.reading.key_at.Statement.{statement}
-use Rattle.book.proofs.reading.key_at.Tie as tie
+use Rattle.book_deciding.proofs.reading.key_at.Statement.{statement}
+use Rattle.book_deciding.proofs.reading.key_at.Tie as tie
 
 returns : tie.Need-returns
 returns c = answer-value _ (c .before .before .before .value-with .ensures) (c .before .key .given .1) ∙ ap (λ (f : DeleteFields). numberOf (f .id)) (c .before .before .before .before .before .delete .ensures)

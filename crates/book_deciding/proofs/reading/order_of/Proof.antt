@@ -2,10 +2,10 @@
 -- Assumes nothing.
 use Rattle.message.specs.Layouts.{layoutOf}
 use Rattle.message.specs.Row.{fieldsOf, messageOf}
 use Rattle.book.specs.Applying.{orderOf}
 use borrow.Author.Needs.{needs}
-use Rattle.book.proofs.reading.order_of.Statement.{statement}
-use Rattle.book.proofs.reading.order_of.Tie as tie
+use Rattle.book_deciding.proofs.reading.order_of.Statement.{statement}
+use Rattle.book_deciding.proofs.reading.order_of.Tie as tie
 
 returns : tie.Need-returns
 unfolding orderOf fieldsOf messageOf layoutOf

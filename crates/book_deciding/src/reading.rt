@@ -1,6 +1,6 @@
 // Parts: what a whole message names and makes. `digits` is the digit table, copied once and lent.
-use crate::tables::Inside;
-use crate::tables::Order;
+use book::tables::Inside;
+use book::tables::Order;
 use fields::id::IdValue;
 use fields::parts::NONE;
 use fields::parts::value_with;
