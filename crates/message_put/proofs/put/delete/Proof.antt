@@ -6,7 +6,8 @@ use Rattle.message_put.proofs.put.delete.Statement.{statement}
 use Rattle.message_put.proofs.put.delete.Tie as tie
 
 returns : tie.Need-returns
-returns c = puts-row _ _ _ _ (search needs) (search needs) (then _ _ (c .before .before .before .before .before .before .before .put-u32 .ensures) (c .before .before .put-text .ensures))
+returns c =
+    puts-row _ _ _ _ (search needs) (search needs) (let at-put-text = c .before .before in let at-put-u32 = at-put-text .before .before .before .before .before in then _ _ (at-put-u32 .put-u32 .ensures) (at-put-text .put-text .ensures))
 
 pub delete-spec : {M : Type 1} → statement M
 delete-spec =

@@ -6,7 +6,8 @@ use Rattle.message_put.proofs.put.security_back.Statement.{statement}
 use Rattle.message_put.proofs.put.security_back.Tie as tie
 
 returns : tie.Need-returns
-returns c = puts-row _ _ _ _ tt (search needs) (then _ _ (then _ _ (then _ _ (c .before .before .before .before .before .before .before .before .before .before .before .before .before .before .put-u16 .ensures) (c .before .before .before .before .before .before .before .before .before .before .put-u8 .ensures)) (c .before .before .before .before .before .before .put-u82 .ensures)) (c .before .before .put-u83 .ensures))
+returns c =
+    puts-row _ _ _ _ tt (search needs) (let at-put-u83 = c .before .before in let at-put-u82 = at-put-u83 .before .before .before .before in let at-put-u8 = at-put-u82 .before .before .before .before in let at-put-u16 = at-put-u8 .before .before .before .before in then _ _ (then _ _ (then _ _ (at-put-u16 .put-u16 .ensures) (at-put-u8 .put-u8 .ensures)) (at-put-u82 .put-u82 .ensures)) (at-put-u83 .put-u83 .ensures))
 
 pub security-back-spec : {M : Type 1} → statement M
 security-back-spec =

@@ -6,7 +6,8 @@ use Rattle.message_put.proofs.put.security_front.Statement.{statement}
 use Rattle.message_put.proofs.put.security_front.Tie as tie
 
 returns : tie.Need-returns
-returns c = puts-row _ _ _ _ (search needs) (search needs) (then _ _ (then _ _ (then _ _ (then _ _ (c .before .before .before .before .before .before .before .before .before .before .before .before .before .before .before .before .before .before .put-text .ensures) (c .before .before .before .before .before .before .before .before .before .before .before .before .before .before .put-u64 .ensures)) (c .before .before .before .before .before .before .before .before .before .before .put-u8 .ensures)) (c .before .before .before .before .before .before .put-u82 .ensures)) (c .before .before .put-u32 .ensures))
+returns c =
+    puts-row _ _ _ _ (search needs) (search needs) (let at-put-u32 = c .before .before in let at-put-u82 = at-put-u32 .before .before .before .before in let at-put-u8 = at-put-u82 .before .before .before .before in let at-put-u64 = at-put-u8 .before .before .before .before in let at-put-text = at-put-u64 .before .before .before .before in then _ _ (then _ _ (then _ _ (then _ _ (at-put-text .put-text .ensures) (at-put-u64 .put-u64 .ensures)) (at-put-u8 .put-u8 .ensures)) (at-put-u82 .put-u82 .ensures)) (at-put-u32 .put-u32 .ensures))
 
 pub security-front-spec : {M : Type 1} → statement M
 security-front-spec =

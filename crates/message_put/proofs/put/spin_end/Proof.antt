@@ -6,7 +6,8 @@ use Rattle.message_put.proofs.put.spin_end.Statement.{statement}
 use Rattle.message_put.proofs.put.spin_end.Tie as tie
 
 returns : tie.Need-returns
-returns c = puts-row _ _ _ _ tt (search needs) (then _ _ (then _ _ (then _ _ (c .before .before .before .before .before .before .before .before .before .before .before .before .before .before .put-u8 .ensures) (c .before .before .before .before .before .before .before .before .before .before .put-u32 .ensures)) (c .before .before .before .before .before .before .put-u64 .ensures)) (c .before .before .put-u322 .ensures))
+returns c =
+    puts-row _ _ _ _ tt (search needs) (let at-put-u322 = c .before .before in let at-put-u64 = at-put-u322 .before .before .before .before in let at-put-u32 = at-put-u64 .before .before .before .before in let at-put-u8 = at-put-u32 .before .before .before .before in then _ _ (then _ _ (then _ _ (at-put-u8 .put-u8 .ensures) (at-put-u32 .put-u32 .ensures)) (at-put-u64 .put-u64 .ensures)) (at-put-u322 .put-u322 .ensures))
 
 pub spin-end-spec : {M : Type 1} → statement M
 spin-end-spec =

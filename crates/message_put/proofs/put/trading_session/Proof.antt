@@ -6,7 +6,8 @@ use Rattle.message_put.proofs.put.trading_session.Statement.{statement}
 use Rattle.message_put.proofs.put.trading_session.Tie as tie
 
 returns : tie.Need-returns
-returns c = puts-row _ _ _ _ tt (search needs) (then _ _ (c .before .before .before .before .before .before .put-u64 .ensures) (c .before .before .put-u8 .ensures))
+returns c =
+    puts-row _ _ _ _ tt (search needs) (let at-put-u8 = c .before .before in let at-put-u64 = at-put-u8 .before .before .before .before in then _ _ (at-put-u64 .put-u64 .ensures) (at-put-u8 .put-u8 .ensures))
 
 pub trading-session-spec : {M : Type 1} → statement M
 trading-session-spec =

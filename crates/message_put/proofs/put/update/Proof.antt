@@ -6,7 +6,8 @@ use Rattle.message_put.proofs.put.update.Statement.{statement}
 use Rattle.message_put.proofs.put.update.Tie as tie
 
 returns : tie.Need-returns
-returns c = puts-row _ _ _ _ (search needs) (search needs) (then _ _ (then _ _ (then _ _ (then _ _ (c .before .before .before .before .before .before .before .before .before .before .before .before .before .before .before .before .before .before .before .put-u32 .ensures) (c .before .before .before .before .before .before .before .before .before .before .before .before .before .before .put-text .ensures)) (c .before .before .before .before .before .before .before .before .before .before .put-u322 .ensures)) (c .before .before .before .before .before .before .put-u64 .ensures)) (c .before .before .put-u16 .ensures))
+returns c =
+    puts-row _ _ _ _ (search needs) (search needs) (let at-put-u16 = c .before .before in let at-put-u64 = at-put-u16 .before .before .before .before in let at-put-u322 = at-put-u64 .before .before .before .before in let at-put-text = at-put-u322 .before .before .before .before in let at-put-u32 = at-put-text .before .before .before .before .before in then _ _ (then _ _ (then _ _ (then _ _ (at-put-u32 .put-u32 .ensures) (at-put-text .put-text .ensures)) (at-put-u322 .put-u322 .ensures)) (at-put-u64 .put-u64 .ensures)) (at-put-u16 .put-u16 .ensures))
 
 pub update-spec : {M : Type 1} → statement M
 update-spec =
