@@ -5,9 +5,7 @@ use Rattle.message_layouts.proofs.delete.Statement.{statement}
 use Rattle.message_layouts.proofs.delete.Tie as tie
 
 returns : tie.Need-returns
-returns c =
-    let time = c .before in
-    λ i. record { time = time .u32-at .ensures i; id = c .text14-at .ensures i }
+returns c = (let time = c .before in λ i. record { time = time .u32-at .ensures i; id = c .text14-at .ensures i })
 
 pub delete-spec : {M : Type 1} → statement M
 delete-spec =

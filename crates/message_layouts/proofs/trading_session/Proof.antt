@@ -5,9 +5,7 @@ use Rattle.message_layouts.proofs.trading_session.Statement.{statement}
 use Rattle.message_layouts.proofs.trading_session.Tie as tie
 
 returns : tie.Need-returns
-returns c =
-    let time = c .before in
-    λ i. record { time = time .u64-at .ensures i; session = c .u8-at .ensures i }
+returns c = (let time = c .before in λ i. record { time = time .u64-at .ensures i; session = c .u8-at .ensures i })
 
 pub trading-session-spec : {M : Type 1} → statement M
 trading-session-spec =

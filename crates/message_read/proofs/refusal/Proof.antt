@@ -1,4 +1,4 @@
--- `message::refusal` answers the number with no message.
+-- `message_read::refusal` answers the number with no message.
 -- Assumes nothing.
 use borrow.Author.Needs.{needs}
 use Rattle.message_read.proofs.refusal.Statement.{statement}

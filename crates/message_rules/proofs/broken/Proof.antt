@@ -1,4 +1,4 @@
--- `message::broken` answers by the kind.
+-- `message_rules::broken` answers by the kind.
 -- Assumes nothing.
 use mathlib.Core.Path.{refl}
 use Rattle.message.specs.Layouts.{layoutOf}

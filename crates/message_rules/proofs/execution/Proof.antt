@@ -6,10 +6,7 @@ use Rattle.message_rules.proofs.execution.Statement.{statement}
 use Rattle.message_rules.proofs.execution.Tie as tie
 
 returns : tie.Need-returns
-returns c =
-    let sized = c .before in
-    let sized-test = sized .before in
-    first-is 7 (c .first2 .ensures) refl (first-is 21 (sized .first .ensures) (sized-test .good-quantity .ensures) refl)
+returns c = (let sized = c .before in let sized-test = sized .before in first-is 7 (c .first2 .ensures) refl (first-is 21 (sized .first .ensures) (sized-test .good-quantity .ensures) refl))
 
 pub execution-spec : {M : Type 1} → statement M
 execution-spec =

@@ -1,4 +1,4 @@
--- `message::good`: no field is broken.
+-- `message_rules::good`: no field is broken.
 -- Assumes nothing.
 use mathlib.Core.Path.{ap}
 use Prim.Native.Nat.{ℕ}

@@ -6,12 +6,7 @@ use Rattle.message_rules.proofs.priced.Statement.{statement}
 use Rattle.message_rules.proofs.priced.Tie as tie
 
 returns : tie.Need-returns
-returns c =
-    let sized = c .before in
-    let sized-test = sized .before in
-    let priced = sized-test .before in
-    let priced-test = priced .before in
-    first-is 7 (c .first3 .ensures) refl (first-is 21 (sized .first2 .ensures) (sized-test .good-quantity .ensures) (first-is 37 (priced .first .ensures) (priced-test .good-price .ensures) refl))
+returns c = (let sized = c .before in let sized-test = sized .before in let priced = sized-test .before in let priced-test = priced .before in first-is 7 (c .first3 .ensures) refl (first-is 21 (sized .first2 .ensures) (sized-test .good-quantity .ensures) (first-is 37 (priced .first .ensures) (priced-test .good-price .ensures) refl)))
 
 pub priced-spec : {M : Type 1} → statement M
 priced-spec =

@@ -6,9 +6,7 @@ use Rattle.message_rules.proofs.trading_session.Statement.{statement}
 use Rattle.message_rules.proofs.trading_session.Tie as tie
 
 returns : tie.Need-returns
-returns c =
-    let last-test = c .before in
-    first-is 11 (c .first .ensures) (last-test .good-session .ensures) refl
+returns c = (let last-test = c .before in first-is 11 (c .first .ensures) (last-test .good-session .ensures) refl)
 
 pub trading-session-spec : {M : Type 1} → statement M
 trading-session-spec =

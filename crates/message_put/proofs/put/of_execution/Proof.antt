@@ -12,24 +12,15 @@ at-published-requires c κs = terms-room _ _ (c .before .enum-told .given .1) (c
 
 at-own-requires : tie.Need-at-own-requires
 unfolding layoutOf
-at-own-requires c κs =
-    let at-terms = c .before .before in
-    let at-pre = at-terms .before .before .before in
-    terms-room _ _ (at-terms .terms .given .1) (at-pre .pre)
+at-own-requires c κs = (let at-terms = c .before .before in let at-pre = at-terms .before .before .before in terms-room _ _ (at-terms .terms .given .1) (at-pre .pre))
 
 returns : tie.Need-returns
 unfolding layoutOf
-returns c =
-    let at-at-published = c .before .before in
-    let at-enum-told = at-at-published .before .before in
-    terms-put _ _ _ _ _ _ _ (at-enum-told .enum-told .given .1) (at-at-published .at-published .ensures)
+returns c = (let at-at-published = c .before .before in let at-enum-told = at-at-published .before .before in terms-put _ _ _ _ _ _ _ (at-enum-told .enum-told .given .1) (at-at-published .at-published .ensures))
 
 returns-2 : tie.Need-returns-2
 unfolding layoutOf
-returns-2 c =
-    let at-at-own = c .before .before in
-    let at-terms = at-at-own .before .before .before in
-    terms-put _ _ _ _ _ _ _ (at-terms .terms .given .1) (at-at-own .at-own .ensures)
+returns-2 c = (let at-at-own = c .before .before in let at-terms = at-at-own .before .before .before in terms-put _ _ _ _ _ _ _ (at-terms .terms .given .1) (at-at-own .at-own .ensures))
 
 pub of-execution-spec : {M : Type 1} → statement M
 of-execution-spec =

@@ -13,20 +13,10 @@ returns-2 : tie.Need-returns-2
 returns-2 c = c .verdict2 .ensures ∙ many _ (c .before .before .if1 .left) (c .before .if2 .taken)
 
 returns-3 : tie.Need-returns-3
-returns-3 c =
-    let at-if3 = c .before in
-    let at-fields = at-if3 .before .before in
-    let at-if2 = at-fields .before in
-    let at-if1 = at-if2 .before in
-    c .verdict3 .ensures ∙ another _ (at-if1 .if1 .left) (at-if2 .if2 .left) (at-fields .fields .ensures) (at-if3 .if3 .taken)
+returns-3 c = (let at-if3 = c .before in let at-fields = at-if3 .before .before in let at-if2 = at-fields .before in let at-if1 = at-if2 .before in c .verdict3 .ensures ∙ another _ (at-if1 .if1 .left) (at-if2 .if2 .left) (at-fields .fields .ensures) (at-if3 .if3 .taken))
 
 returns-4 : tie.Need-returns-4
-returns-4 c =
-    let at-if3 = c .before in
-    let at-fields = at-if3 .before .before in
-    let at-if2 = at-fields .before in
-    let at-if1 = at-if2 .before in
-    c .flagged .ensures ∙ flags _ (at-if1 .if1 .left) (at-if2 .if2 .left) (at-fields .fields .ensures) (at-if3 .if3 .left)
+returns-4 c = (let at-if3 = c .before in let at-fields = at-if3 .before .before in let at-if2 = at-fields .before in let at-if1 = at-if2 .before in c .flagged .ensures ∙ flags _ (at-if1 .if1 .left) (at-if2 .if2 .left) (at-fields .fields .ensures) (at-if3 .if3 .left))
 
 pub tested-spec : {M : Type 1} → statement M
 tested-spec =

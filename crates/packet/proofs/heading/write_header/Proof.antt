@@ -13,11 +13,7 @@ put-requires : tie.Need-put-requires
 put-requires c κs = counted _ _ _ (sym (c .before .before .before .answer .ensures) ∙ c .before .enum-told .given .1) .room
 
 returns-2 : tie.Need-returns-2
-returns-2 c =
-    let at-put = c .before .before in
-    let at-enum-told = at-put .before .before in
-    let at-answer = at-enum-told .before .before in
-    (at-answer .answer .ensures, placed _ _ (sym (at-answer .answer .ensures) ∙ at-enum-told .enum-told .given .1) (at-put .put .ensures))
+returns-2 c = (let at-put = c .before .before in let at-enum-told = at-put .before .before in let at-answer = at-enum-told .before .before in (at-answer .answer .ensures, placed _ _ (sym (at-answer .answer .ensures) ∙ at-enum-told .enum-told .given .1) (at-put .put .ensures)))
 
 pub write-header-spec : {M : Type 1} → statement M
 write-header-spec =

@@ -23,11 +23,7 @@ step-by-requires : tie.Need-step-by-requires Inv-loop μ-loop
 step-by-requires c κs = (search needs, c .before .before .before .sizes .ensures)
 
 returns : tie.Need-returns Inv-loop μ-loop
-returns c =
-    let at-step-by = c .before in
-    let at-loop-test = at-step-by .before .before in
-    let at-loop = at-loop-test .before in
-    walk-stops _ _ _ (at-step-by .step-by .ensures) _ (at-loop-test .loop-test .taken) (c .if1 .taken) ∙ sym (at-loop .loop .inv .1 .1)
+returns c = (let at-step-by = c .before in let at-loop-test = at-step-by .before .before in let at-loop = at-loop-test .before in walk-stops _ _ _ (at-step-by .step-by .ensures) _ (at-loop-test .loop-test .taken) (c .if1 .taken) ∙ sym (at-loop .loop .inv .1 .1))
 
 add-at : tie.Need-add-at Inv-loop μ-loop
 add-at c = omega (arith, step-within _ _ _ (c .before .step-by .ensures) (c .if1 .left) .within)
