@@ -1,0 +1,6 @@
+-- Laws of `single`'s definitions.
+pub mod Cases
+pub mod Giving
+pub mod Laying
+pub mod Steps
+pub mod Taking
