@@ -49,10 +49,19 @@ use Rattle.session.proofs.asking.best.Reads as session-best
 use Rattle.session.proofs.asking.inside.Reads as session-inside
 use Rattle.session.proofs.asking.gap.Reads as session-gap
 use Rattle.session.proofs.asking.requests.Reads as session-requests
-use Rattle.replay.proofs.replay_value.Reads as replay-value
-use Rattle.replay.proofs.replay_header.Reads as replay-header
-use Rattle.replay.proofs.replay_write_header.Reads as replay-write-header
-use Rattle.replay.proofs.replay_message.Reads as replay-message
+use Rattle.exports.proofs.jangsebit_value.Reads as exports-value
+use Rattle.exports.proofs.jangsebit_header.Reads as exports-header
+use Rattle.exports.proofs.jangsebit_write_header.Reads as exports-write-header
+use Rattle.exports.proofs.jangsebit_judge.Reads as exports-judge
+use Rattle.exports.proofs.jangsebit_walk.Reads as exports-walk
+use Rattle.exports.proofs.jangsebit_message.Reads as exports-message
+use Rattle.exports.proofs.jangsebit_write_message.Reads as exports-write-message
+use Rattle.exports.proofs.jangsebit_sizes.Reads as exports-sizes
+use Rattle.exports.proofs.jangsebit_numbers.Reads as exports-numbers
+use Rattle.exports.proofs.jangsebit_inside.Reads as exports-inside
+use Rattle.exports.proofs.jangsebit_requests.Reads as exports-requests
+use Rattle.exports.proofs.jangsebit_gap.Reads as exports-gap
+use Rattle.exports.proofs.jangsebit_pass.Reads as exports-pass
 
 -- of any two answers that a contract admits for one argument, both are the same
 abbrev Once : {K : Type 0} {A R S : K → Type 0} → ((κs : K) → A κs → R κs → S κs → Type 0) → Type 0
@@ -257,32 +266,85 @@ session-requests-once κs a one other s t p q = once (p .0) (q .0)
 pub session-requests-memory : (κs : _) (a : _) (one other : _) (s t : _) → session-requests.Post κs a one s → session-requests.Post κs a other t → now (s .1 .1 .0) ≡ now (t .1 .1 .0)
 session-requests-memory κs a one other s t p q = once (p .1) (q .1)
 
--- ---- replay: `replay_burst` and `replay_ask` are left out. Their contracts bound what is written and do not fix it: they
--- serve the comparison from Rust, and the calls that they make are held above.
+-- ---- exports, the answer of each and all that it is lent to write
 
-pub replay-value-once : Once replay-value.Post
-replay-value-once κs a one other s t p q = once (p .0) (q .0)
+pub exports-value-once : Once exports-value.Post
+exports-value-once κs a one other s t p q = once (p .0) (q .0)
 
-pub replay-value-memory : (κs : _) (a : _) (one other : _) (s t : _) → replay-value.Post κs a one s → replay-value.Post κs a other t → now (s .1 .0) ≡ now (t .1 .0)
-replay-value-memory κs a one other s t p q = once (p .1) (q .1)
+pub exports-value-told : (κs : _) (a : _) (one other : _) (s t : _) → exports-value.Post κs a one s → exports-value.Post κs a other t → now (s .1 .0) ≡ now (t .1 .0)
+exports-value-told κs a one other s t p q = once (p .1) (q .1)
 
-pub replay-header-once : Once replay-header.Post
-replay-header-once κs a one other s t p q = once (p .0) (q .0)
+pub exports-header-once : Once exports-header.Post
+exports-header-once κs a one other s t p q = once (p .0) (q .0)
 
-pub replay-header-memory : (κs : _) (a : _) (one other : _) (s t : _) → replay-header.Post κs a one s → replay-header.Post κs a other t → now (s .1 .0) ≡ now (t .1 .0)
-replay-header-memory κs a one other s t p q = once (p .1) (q .1)
+pub exports-header-told : (κs : _) (a : _) (one other : _) (s t : _) → exports-header.Post κs a one s → exports-header.Post κs a other t → now (s .1 .0) ≡ now (t .1 .0)
+exports-header-told κs a one other s t p q = once (p .1) (q .1)
 
-pub replay-write-header-once : Once replay-write-header.Post
-replay-write-header-once κs a one other s t p q = once (p .0) (q .0)
+pub exports-write-header-once : Once exports-write-header.Post
+exports-write-header-once κs a one other s t p q = once (p .0) (q .0)
 
-pub replay-write-header-memory : (κs : _) (a : _) (one other : _) (s t : _) → replay-write-header.Post κs a one s → replay-write-header.Post κs a other t → now (s .1 .1 .1 .1 .1 .0) ≡ now (t .1 .1 .1 .1 .1 .0)
-replay-write-header-memory κs a one other s t p q = once (p .1) (q .1)
+pub exports-write-header-buffer : (κs : _) (a : _) (one other : _) (s t : _) → exports-write-header.Post κs a one s → exports-write-header.Post κs a other t → now (s .1 .1 .1 .1 .1 .0) ≡ now (t .1 .1 .1 .1 .1 .0)
+exports-write-header-buffer κs a one other s t p q = once (p .1) (q .1)
 
-pub replay-message-once : Once replay-message.Post
-replay-message-once κs a one other s t p q = once (p .0) (q .0)
+pub exports-judge-once : Once exports-judge.Post
+exports-judge-once κs a one other s t p q = once (p .0) (q .0)
 
-pub replay-message-buffer : (κs : _) (a : _) (one other : _) (s t : _) → replay-message.Post κs a one s → replay-message.Post κs a other t → now (s .1 .0) ≡ now (t .1 .0)
-replay-message-buffer κs a one other s t p q = once (p .1 .0) (q .1 .0)
+pub exports-judge-told : (κs : _) (a : _) (one other : _) (s t : _) → exports-judge.Post κs a one s → exports-judge.Post κs a other t → now (s .1 .0) ≡ now (t .1 .0)
+exports-judge-told κs a one other s t p q = once (p .1) (q .1)
 
-pub replay-message-refusals : (κs : _) (a : _) (one other : _) (s t : _) → replay-message.Post κs a one s → replay-message.Post κs a other t → now (s .1 .1 .1 .0) ≡ now (t .1 .1 .1 .0)
-replay-message-refusals κs a one other s t p q = once (p .1 .1) (q .1 .1)
+pub exports-walk-once : Once exports-walk.Post
+exports-walk-once κs a one other s t p q = once (p .0) (q .0)
+
+pub exports-walk-places : (κs : _) (a : _) (one other : _) (s t : _) → exports-walk.Post κs a one s → exports-walk.Post κs a other t → now (s .1 .0) ≡ now (t .1 .0)
+exports-walk-places κs a one other s t p q = once (p .1 .0) (q .1 .0)
+
+pub exports-walk-told : (κs : _) (a : _) (one other : _) (s t : _) → exports-walk.Post κs a one s → exports-walk.Post κs a other t → now (s .1 .1 .0) ≡ now (t .1 .1 .0)
+exports-walk-told κs a one other s t p q = once (p .1 .1) (q .1 .1)
+
+pub exports-message-once : Once exports-message.Post
+exports-message-once κs a one other s t p q = once (p .0) (q .0)
+
+pub exports-message-told : (κs : _) (a : _) (one other : _) (s t : _) → exports-message.Post κs a one s → exports-message.Post κs a other t → now (s .1 .0) ≡ now (t .1 .0)
+exports-message-told κs a one other s t p q = once (p .1) (q .1)
+
+pub exports-write-message-once : Once exports-write-message.Post
+exports-write-message-once κs a one other s t p q = once (p .0) (q .0)
+
+pub exports-write-message-buffer : (κs : _) (a : _) (one other : _) (s t : _) → exports-write-message.Post κs a one s → exports-write-message.Post κs a other t → now (s .1 .0) ≡ now (t .1 .0)
+exports-write-message-buffer κs a one other s t p q = once (p .1 .0) (q .1 .0)
+
+pub exports-write-message-told : (κs : _) (a : _) (one other : _) (s t : _) → exports-write-message.Post κs a one s → exports-write-message.Post κs a other t → now (s .1 .1 .1 .0) ≡ now (t .1 .1 .1 .0)
+exports-write-message-told κs a one other s t p q = once (p .1 .1) (q .1 .1)
+
+pub exports-sizes-told : (κs : _) (a : _) (one other : _) (s t : _) → exports-sizes.Post κs a one s → exports-sizes.Post κs a other t → now (s .0) ≡ now (t .0)
+exports-sizes-told κs a one other s t p q = once (p) (q)
+
+pub exports-numbers-told : (κs : _) (a : _) (one other : _) (s t : _) → exports-numbers.Post κs a one s → exports-numbers.Post κs a other t → now (s .1 .0) ≡ now (t .1 .0)
+exports-numbers-told κs a one other s t p q = once (p) (q)
+
+pub exports-inside-once : Once exports-inside.Post
+exports-inside-once κs a one other s t p q = once (p .0) (q .0)
+
+pub exports-inside-told : (κs : _) (a : _) (one other : _) (s t : _) → exports-inside.Post κs a one s → exports-inside.Post κs a other t → now (s .1 .1 .0) ≡ now (t .1 .1 .0)
+exports-inside-told κs a one other s t p q = once (p .1) (q .1)
+
+pub exports-requests-once : Once exports-requests.Post
+exports-requests-once κs a one other s t p q = once (p .0) (q .0)
+
+pub exports-requests-buffer : (κs : _) (a : _) (one other : _) (s t : _) → exports-requests.Post κs a one s → exports-requests.Post κs a other t → now (s .1 .1 .0) ≡ now (t .1 .1 .0)
+exports-requests-buffer κs a one other s t p q = once (p .1 .0) (q .1 .0)
+
+pub exports-requests-told : (κs : _) (a : _) (one other : _) (s t : _) → exports-requests.Post κs a one s → exports-requests.Post κs a other t → now (s .1 .1 .1 .0) ≡ now (t .1 .1 .1 .0)
+exports-requests-told κs a one other s t p q = once (p .1 .1) (q .1 .1)
+
+pub exports-gap-told : (κs : _) (a : _) (one other : _) (s t : _) → exports-gap.Post κs a one s → exports-gap.Post κs a other t → now (s .1 .1 .1 .0) ≡ now (t .1 .1 .1 .0)
+exports-gap-told κs a one other s t p q = once (p) (q)
+
+pub exports-pass-told : (κs : _) (a : _) (one other : _) (s t : _) → exports-pass.Post κs a one s → exports-pass.Post κs a other t → now (s .1 .1 .1 .0) ≡ now (t .1 .1 .1 .0)
+exports-pass-told κs a one other s t p q = once (p .0) (q .0)
+
+pub exports-pass-room : (κs : _) (a : _) (one other : _) (s t : _) → exports-pass.Post κs a one s → exports-pass.Post κs a other t → (session : Session) → Ruled (held session (now (a .0)) (now (a .1 .0))) → now (s .0) ≡ now (t .0)
+exports-pass-room κs a one other s t p q session rule = room-of (once (p .1 .0 session rule) (q .1 .0 session rule))
+
+pub exports-pass-window : (κs : _) (a : _) (one other : _) (s t : _) → exports-pass.Post κs a one s → exports-pass.Post κs a other t → (session : Session) → Ruled (held session (now (a .0)) (now (a .1 .0))) → now (s .1 .0) ≡ now (t .1 .0)
+exports-pass-window κs a one other s t p q session rule = window-of (once (p .1 .0 session rule) (q .1 .0 session rule))
