@@ -62,6 +62,10 @@ use Rattle.exports.proofs.jangsebit_inside.Reads as exports-inside
 use Rattle.exports.proofs.jangsebit_requests.Reads as exports-requests
 use Rattle.exports.proofs.jangsebit_gap.Reads as exports-gap
 use Rattle.exports.proofs.jangsebit_pass.Reads as exports-pass
+use Rattle.exports.proofs.jangsebit_open as exports-open
+use Rattle.exports.proofs.jangsebit_packets as exports-packets
+use Rattle.exports.proofs.jangsebit_order as exports-order
+use Rattle.exports.proofs.jangsebit_quotes as exports-quotes
 
 -- of any two answers that a contract admits for one argument, both are the same
 abbrev Once : {K : Type 0} {A R S : K → Type 0} → ((κs : K) → A κs → R κs → S κs → Type 0) → Type 0
@@ -348,3 +352,65 @@ exports-pass-room κs a one other s t p q session rule = room-of (once (p .1 .0 
 
 pub exports-pass-window : (κs : _) (a : _) (one other : _) (s t : _) → exports-pass.Post κs a one s → exports-pass.Post κs a other t → (session : Session) → Ruled (held session (now (a .0)) (now (a .1 .0))) → now (s .1 .0) ≡ now (t .1 .0)
 exports-pass-window κs a one other s t p q session rule = window-of (once (p .1 .0 session rule) (q .1 .0 session rule))
+
+-- the four that are lent the orders: their walks are by hand, and their clauses are told as the reader's are
+
+abbrev order-refusal : (κs : _) (session : _) (room : _) (id : _) (told : _) (session′ : _) (room′ : _) (id′ : _) (told′ : _) (r : _) → Told (λ w. exports-order.ensures-refusal (w .𝓤) (w .H) κs (w .𝓖 .A) (w .𝓜 .mem) (w .𝓡 .run) session room id told session′ room′ id′ told′ r)
+order-refusal κs session room id told session′ room′ id′ told′ r = all-models (λ w. exports-order.ensures-refusal (w .𝓤) (w .H) κs (w .𝓖 .A) (w .𝓜 .mem) (w .𝓡 .run) session room id told session′ room′ id′ told′ r) (λ w. r-last _) (λ w. refl) (λ w. refl) (λ w. refl)
+
+abbrev order-told : (κs : _) (session : _) (room : _) (id : _) (told : _) (session′ : _) (room′ : _) (id′ : _) (told′ : _) (r : _) → Told (λ w. exports-order.ensures-told (w .𝓤) (w .H) κs (w .𝓖 .A) (w .𝓜 .mem) (w .𝓡 .run) session room id told session′ room′ id′ told′ r)
+order-told κs session room id told session′ room′ id′ told′ r = all-models (λ w. exports-order.ensures-told (w .𝓤) (w .H) κs (w .𝓖 .A) (w .𝓜 .mem) (w .𝓡 .run) session room id told session′ room′ id′ told′ r) (λ w. r-last _) (λ w. refl) (λ w. refl) (λ w. refl)
+
+abbrev quotes-refusal : (κs : _) (session : _) (room : _) (asked : _) (replies : _) (session′ : _) (room′ : _) (asked′ : _) (replies′ : _) (r : _) → Told (λ w. exports-quotes.ensures-refusal (w .𝓤) (w .H) κs (w .𝓖 .A) (w .𝓜 .mem) (w .𝓡 .run) session room asked replies session′ room′ asked′ replies′ r)
+quotes-refusal κs session room asked replies session′ room′ asked′ replies′ r = all-models (λ w. exports-quotes.ensures-refusal (w .𝓤) (w .H) κs (w .𝓖 .A) (w .𝓜 .mem) (w .𝓡 .run) session room asked replies session′ room′ asked′ replies′ r) (λ w. r-last _) (λ w. refl) (λ w. refl) (λ w. refl)
+
+abbrev quotes-replies : (κs : _) (session : _) (room : _) (asked : _) (replies : _) (session′ : _) (room′ : _) (asked′ : _) (replies′ : _) (r : _) → Told (λ w. exports-quotes.ensures-replies (w .𝓤) (w .H) κs (w .𝓖 .A) (w .𝓜 .mem) (w .𝓡 .run) session room asked replies session′ room′ asked′ replies′ r)
+quotes-replies κs session room asked replies session′ room′ asked′ replies′ r = all-models (λ w. exports-quotes.ensures-replies (w .𝓤) (w .H) κs (w .𝓖 .A) (w .𝓜 .mem) (w .𝓡 .run) session room asked replies session′ room′ asked′ replies′ r) (λ w. r-last _) (λ w. refl) (λ w. refl) (λ w. refl)
+
+abbrev open-held : (κs : _) (session : _) (room : _) (window : _) (number : _) (session′ : _) (room′ : _) (window′ : _) (number′ : _) (r : _) → Told (λ w. exports-open.ensures-opened (w .𝓤) (w .H) κs (w .𝓖 .A) (w .𝓜 .mem) (w .𝓡 .run) session room window number session′ room′ window′ number′ r)
+open-held κs session room window number session′ room′ window′ number′ r = all-models (λ w. exports-open.ensures-opened (w .𝓤) (w .H) κs (w .𝓖 .A) (w .𝓜 .mem) (w .𝓡 .run) session room window number session′ room′ window′ number′ r) (λ w. r-last _) (λ w. refl) (λ w. refl) (λ w. refl)
+
+abbrev packets-held : (κs : _) (session : _) (room : _) (window : _) (packets : _) (single : _) (count : _) (answers : _) (told : _) (session′ : _) (room′ : _) (window′ : _) (packets′ : _) (single′ : _) (count′ : _) (answers′ : _) (told′ : _) (r : _) → Told (λ w. exports-packets.ensures-taken (w .𝓤) (w .H) κs (w .𝓖 .A) (w .𝓜 .mem) (w .𝓡 .run) session room window packets single count answers told session′ room′ window′ packets′ single′ count′ answers′ told′ r)
+packets-held κs session room window packets single count answers told session′ room′ window′ packets′ single′ count′ answers′ told′ r = all-models (λ w. exports-packets.ensures-taken (w .𝓤) (w .H) κs (w .𝓖 .A) (w .𝓜 .mem) (w .𝓡 .run) session room window packets single count answers told session′ room′ window′ packets′ single′ count′ answers′ told′ r) (λ w. r-last _) (λ w. refl) (λ w. refl) (λ w. refl)
+
+abbrev packets-answers : (κs : _) (session : _) (room : _) (window : _) (packets : _) (single : _) (count : _) (answers : _) (told : _) (session′ : _) (room′ : _) (window′ : _) (packets′ : _) (single′ : _) (count′ : _) (answers′ : _) (told′ : _) (r : _) → Told (λ w. exports-packets.ensures-answers (w .𝓤) (w .H) κs (w .𝓖 .A) (w .𝓜 .mem) (w .𝓡 .run) session room window packets single count answers told session′ room′ window′ packets′ single′ count′ answers′ told′ r)
+packets-answers κs session room window packets single count answers told session′ room′ window′ packets′ single′ count′ answers′ told′ r = all-models (λ w. exports-packets.ensures-answers (w .𝓤) (w .H) κs (w .𝓖 .A) (w .𝓜 .mem) (w .𝓡 .run) session room window packets single count answers told session′ room′ window′ packets′ single′ count′ answers′ told′ r) (λ w. r-last _) (λ w. refl) (λ w. refl) (λ w. refl)
+
+abbrev packets-told : (κs : _) (session : _) (room : _) (window : _) (packets : _) (single : _) (count : _) (answers : _) (told : _) (session′ : _) (room′ : _) (window′ : _) (packets′ : _) (single′ : _) (count′ : _) (answers′ : _) (told′ : _) (r : _) → Told (λ w. exports-packets.ensures-told (w .𝓤) (w .H) κs (w .𝓖 .A) (w .𝓜 .mem) (w .𝓡 .run) session room window packets single count answers told session′ room′ window′ packets′ single′ count′ answers′ told′ r)
+packets-told κs session room window packets single count answers told session′ room′ window′ packets′ single′ count′ answers′ told′ r = all-models (λ w. exports-packets.ensures-told (w .𝓤) (w .H) κs (w .𝓖 .A) (w .𝓜 .mem) (w .𝓡 .run) session room window packets single count answers told session′ room′ window′ packets′ single′ count′ answers′ told′ r) (λ w. r-last _) (λ w. refl) (λ w. refl) (λ w. refl)
+
+pub exports-order-once : (κs : _) (session : _) (room : _) (id : _) (told : _) (session′ : _) (room′ : _) (id′ : _) (told′ : _) (one other : _) → AllOf (order-refusal κs session room id told session′ room′ id′ told′ one .tells) → AllOf (order-refusal κs session room id told session′ room′ id′ told′ other .tells) → one ≡ other
+exports-order-once κs session room id told session′ room′ id′ told′ one other = once
+
+pub exports-quotes-once : (κs : _) (session : _) (room : _) (asked : _) (replies : _) (session′ : _) (room′ : _) (asked′ : _) (replies′ : _) (one other : _) → AllOf (quotes-refusal κs session room asked replies session′ room′ asked′ replies′ one .tells) → AllOf (quotes-refusal κs session room asked replies session′ room′ asked′ replies′ other .tells) → one ≡ other
+exports-quotes-once κs session room asked replies session′ room′ asked′ replies′ one other = once
+
+pub exports-order-told : (κs : _) (session : _) (room : _) (id : _) (told : _) (session′ : _) (room′ : _) (id′ : _) (one other : _) (r q : _) → AllOf (order-told κs session room id told session′ room′ id′ (record { entry = told; exit = one }) r .tells) → AllOf (order-told κs session room id told session′ room′ id′ (record { entry = told; exit = other }) q .tells) → now one ≡ now other
+exports-order-told κs session room id told session′ room′ id′ one other r q = once
+
+pub exports-quotes-replies : (κs : _) (session : _) (room : _) (asked : _) (replies : _) (session′ : _) (room′ : _) (asked′ : _) (one other : _) (r q : _) → AllOf (quotes-replies κs session room asked replies session′ room′ asked′ (record { entry = replies; exit = one }) r .tells) → AllOf (quotes-replies κs session room asked replies session′ room′ asked′ (record { entry = replies; exit = other }) q .tells) → now one ≡ now other
+exports-quotes-replies κs session room asked replies session′ room′ asked′ one other r q = once
+
+pub exports-packets-answers : (κs : _) (session : _) (room : _) (window : _) (packets : _) (single : _) (count : _) (answers : _) (told : _) (session′ : _) (room′ : _) (window′ : _) (packets′ : _) (single′ : _) (count′ : _) (told′ : _) (one other : _) (r q : _) → AllOf (packets-answers κs session room window packets single count answers told session′ room′ window′ packets′ single′ count′ (record { entry = answers; exit = one }) told′ r .tells) → AllOf (packets-answers κs session room window packets single count answers told session′ room′ window′ packets′ single′ count′ (record { entry = answers; exit = other }) told′ q .tells) → now one ≡ now other
+exports-packets-answers κs session room window packets single count answers told session′ room′ window′ packets′ single′ count′ told′ one other r q = once
+
+pub exports-packets-told : (κs : _) (session : _) (room : _) (window : _) (packets : _) (single : _) (count : _) (answers : _) (told : _) (session′ : _) (room′ : _) (window′ : _) (packets′ : _) (single′ : _) (count′ : _) (answers′ : _) (one other : _) (r q : _) → AllOf (packets-told κs session room window packets single count answers told session′ room′ window′ packets′ single′ count′ answers′ (record { entry = told; exit = one }) r .tells) → AllOf (packets-told κs session room window packets single count answers told session′ room′ window′ packets′ single′ count′ answers′ (record { entry = told; exit = other }) q .tells) → now one ≡ now other
+exports-packets-told κs session room window packets single count answers told session′ room′ window′ packets′ single′ count′ answers′ one other r q = once
+
+pub exports-open-session : (κs : _) (session : _) (room : _) (window : _) (number : _) (number′ : _) (session₁ : _) (room₁ : _) (window₁ : _) (session₂ : _) (room₂ : _) (window₂ : _) (r q : _) → AllOf (open-held κs session room window number (record { entry = session; exit = session₁ }) (record { entry = room; exit = room₁ }) (record { entry = window; exit = window₁ }) number′ r .tells) → AllOf (open-held κs session room window number (record { entry = session; exit = session₂ }) (record { entry = room; exit = room₂ }) (record { entry = window; exit = window₂ }) number′ q .tells) → now session₁ ≡ now session₂
+exports-open-session κs session room window number number′ session₁ room₁ window₁ session₂ room₂ window₂ r q one other = session-of (once one other)
+
+pub exports-open-room : (κs : _) (session : _) (room : _) (window : _) (number : _) (number′ : _) (session₁ : _) (room₁ : _) (window₁ : _) (session₂ : _) (room₂ : _) (window₂ : _) (r q : _) → AllOf (open-held κs session room window number (record { entry = session; exit = session₁ }) (record { entry = room; exit = room₁ }) (record { entry = window; exit = window₁ }) number′ r .tells) → AllOf (open-held κs session room window number (record { entry = session; exit = session₂ }) (record { entry = room; exit = room₂ }) (record { entry = window; exit = window₂ }) number′ q .tells) → now room₁ ≡ now room₂
+exports-open-room κs session room window number number′ session₁ room₁ window₁ session₂ room₂ window₂ r q one other = room-of (once one other)
+
+pub exports-open-window : (κs : _) (session : _) (room : _) (window : _) (number : _) (number′ : _) (session₁ : _) (room₁ : _) (window₁ : _) (session₂ : _) (room₂ : _) (window₂ : _) (r q : _) → AllOf (open-held κs session room window number (record { entry = session; exit = session₁ }) (record { entry = room; exit = room₁ }) (record { entry = window; exit = window₁ }) number′ r .tells) → AllOf (open-held κs session room window number (record { entry = session; exit = session₂ }) (record { entry = room; exit = room₂ }) (record { entry = window; exit = window₂ }) number′ q .tells) → now window₁ ≡ now window₂
+exports-open-window κs session room window number number′ session₁ room₁ window₁ session₂ room₂ window₂ r q one other = window-of (once one other)
+
+pub exports-packets-session : (κs : _) (session : _) (room : _) (window : _) (packets : _) (single : _) (count : _) (answers : _) (told : _) (packets′ : _) (single′ : _) (count′ : _) (answers′ : _) (told′ : _) (session₁ : _) (room₁ : _) (window₁ : _) (session₂ : _) (room₂ : _) (window₂ : _) (r q : _) → AllOf (packets-held κs session room window packets single count answers told (record { entry = session; exit = session₁ }) (record { entry = room; exit = room₁ }) (record { entry = window; exit = window₁ }) packets′ single′ count′ answers′ told′ r .tells) → AllOf (packets-held κs session room window packets single count answers told (record { entry = session; exit = session₂ }) (record { entry = room; exit = room₂ }) (record { entry = window; exit = window₂ }) packets′ single′ count′ answers′ told′ q .tells) → now session₁ ≡ now session₂
+exports-packets-session κs session room window packets single count answers told packets′ single′ count′ answers′ told′ session₁ room₁ window₁ session₂ room₂ window₂ r q one other = session-of (once one other)
+
+pub exports-packets-room : (κs : _) (session : _) (room : _) (window : _) (packets : _) (single : _) (count : _) (answers : _) (told : _) (packets′ : _) (single′ : _) (count′ : _) (answers′ : _) (told′ : _) (session₁ : _) (room₁ : _) (window₁ : _) (session₂ : _) (room₂ : _) (window₂ : _) (r q : _) → AllOf (packets-held κs session room window packets single count answers told (record { entry = session; exit = session₁ }) (record { entry = room; exit = room₁ }) (record { entry = window; exit = window₁ }) packets′ single′ count′ answers′ told′ r .tells) → AllOf (packets-held κs session room window packets single count answers told (record { entry = session; exit = session₂ }) (record { entry = room; exit = room₂ }) (record { entry = window; exit = window₂ }) packets′ single′ count′ answers′ told′ q .tells) → now room₁ ≡ now room₂
+exports-packets-room κs session room window packets single count answers told packets′ single′ count′ answers′ told′ session₁ room₁ window₁ session₂ room₂ window₂ r q one other = room-of (once one other)
+
+pub exports-packets-window : (κs : _) (session : _) (room : _) (window : _) (packets : _) (single : _) (count : _) (answers : _) (told : _) (packets′ : _) (single′ : _) (count′ : _) (answers′ : _) (told′ : _) (session₁ : _) (room₁ : _) (window₁ : _) (session₂ : _) (room₂ : _) (window₂ : _) (r q : _) → AllOf (packets-held κs session room window packets single count answers told (record { entry = session; exit = session₁ }) (record { entry = room; exit = room₁ }) (record { entry = window; exit = window₁ }) packets′ single′ count′ answers′ told′ r .tells) → AllOf (packets-held κs session room window packets single count answers told (record { entry = session; exit = session₂ }) (record { entry = room; exit = room₂ }) (record { entry = window; exit = window₂ }) packets′ single′ count′ answers′ told′ q .tells) → now window₁ ≡ now window₂
+exports-packets-window κs session room window packets single count answers told packets′ single′ count′ answers′ told′ session₁ room₁ window₁ session₂ room₂ window₂ r q one other = window-of (once one other)
