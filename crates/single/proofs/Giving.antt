@@ -94,7 +94,7 @@ holds : (f : Field) (k : ℕ) (ns : List ℕ) → wideFrom (widthsIn f) k ns ≡
 holds (number w) k ns h = leb-false _ _ (or-both _ _ h .0)
 holds (text w) k ns h = text-holds w k ns
 
-row-fits : (fs : List Field) (k : ℕ) (ns : List ℕ) → wideFrom (widthsOf fs) k ns ≡ false → Fits fs (rowFrom fs k ns)
+pub row-fits : (fs : List Field) (k : ℕ) (ns : List ℕ) → wideFrom (widthsOf fs) k ns ≡ false → Fits fs (rowFrom fs k ns)
 row-fits [] k ns h = tt
 row-fits (f ∷ fs) k ns h =
     let e = or-both _ _ (sym (wide-append (widthsIn f) (widthsOf fs) k ns) ∙ h) in
@@ -103,7 +103,7 @@ row-fits (f ∷ fs) k ns h =
 abbrev EncodeIs : ℕ → Type 0
 EncodeIs t = (ns : List ℕ) → encode (layoutOf t) (rowFrom (layoutOf t) 1 ns) ≡ bytesFrom (widthsOf (layoutOf t)) 1 ns
 
-encode-is : (t : ℕ) → EncodeIs t
+pub encode-is : (t : ℕ) → EncodeIs t
 unfolding layoutOf
 encode-is =
     by-type EncodeIs (λ ns. refl) (λ ns. refl) (λ ns. refl) (λ ns. refl) (λ ns. refl) (λ ns. refl) (λ ns. refl) (λ ns. refl) (λ ns. refl) (λ ns. refl) (λ ns. refl)

@@ -2,5 +2,6 @@
 pub mod Cases
 pub mod Giving
 pub mod Laying
+pub mod Returning
 pub mod Steps
 pub mod Taking
