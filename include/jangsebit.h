@@ -40,6 +40,11 @@
 #define JANGSEBIT_REQUEST 12
 #define JANGSEBIT_REQUESTS (JANGSEBIT_REQUEST * JANGSEBIT_NUMBERS / 2)
 
+/* A message's bytes at most; the numbers that it is told in; the most messages of a packet. */
+#define JANGSEBIT_MESSAGE 128
+#define JANGSEBIT_FIELDS 14
+#define JANGSEBIT_MESSAGES 255
+
 /* A live order. `id` is the id's value, `price` in millionths; the texts are not ended by a zero. */
 struct jangsebit_order {
     uint64_t id;
@@ -169,6 +174,39 @@ void jangsebit_gap(
     uint64_t from,
     uint64_t told[2]);
 
+void jangsebit_sizes(uint64_t told[12]);
+
+uint64_t jangsebit_value(const uint8_t id[JANGSEBIT_TEXT], uint64_t told[1]);
+
+uint64_t jangsebit_header(const uint8_t *packet, size_t packet_len, uint64_t told[5]);
+
+uint64_t jangsebit_write_header(
+    uint16_t size,
+    uint32_t seq,
+    uint8_t flag,
+    uint8_t messages,
+    uint32_t milli,
+    uint8_t *buf,
+    size_t buf_len);
+
+uint64_t jangsebit_judge(const uint8_t *packet, size_t packet_len, uint64_t told[1]);
+
+uint64_t jangsebit_walk(
+    const uint8_t *packet,
+    size_t packet_len,
+    uint64_t *places,
+    size_t places_len,
+    uint64_t told[2]);
+
+uint64_t jangsebit_message(const uint8_t *bytes, size_t bytes_len, uint64_t told[JANGSEBIT_FIELDS]);
+
+uint64_t jangsebit_write_message(
+    const uint64_t numbers[JANGSEBIT_FIELDS],
+    uint8_t *buf,
+    size_t buf_len,
+    size_t at,
+    uint64_t told[1]);
+
 #ifdef __cplusplus
 }
 #endif
@@ -233,6 +271,21 @@ struct jsb_gap {
     uint64_t count;
 };
 
+/* A packet's header; bit 0 of the flag says heartbeat. */
+struct jsb_header {
+    uint16_t size;
+    uint32_t number;
+    uint8_t flag;
+    uint8_t messages;
+    uint32_t milli;
+};
+
+/* Where a message starts in its packet, and how many bytes it has. */
+struct jsb_place {
+    uint64_t start;
+    uint64_t size;
+};
+
 /* The library reads and writes by these places and sizes. */
 static_assert(sizeof(size_t) == 8, "a length has 8 bytes");
 static_assert(sizeof(struct jangsebit_order) == 40, "an order has 40 bytes");
@@ -255,6 +308,7 @@ static_assert(sizeof(struct jsb_question) == 15, "a question has 15 bytes");
 static_assert(sizeof(struct jsb_quote) == 4 * sizeof(uint64_t), "a quote is four numbers");
 static_assert(sizeof(struct jsb_inside) == 6 * sizeof(uint64_t), "an inside is six numbers");
 static_assert(sizeof(struct jsb_gap) == 2 * sizeof(uint64_t), "a gap is two numbers");
+static_assert(sizeof(struct jsb_place) == 2 * sizeof(uint64_t), "a place is two numbers");
 
 /* ---- The functions for a host. ---- */
 
@@ -421,6 +475,137 @@ static inline struct jsb_gap jsb_gap(const struct jangsebit *held, uint64_t from
     gap.start = told[0];
     gap.count = told[1];
     return gap;
+}
+
+/* ---- Without a session. ---- */
+
+/* Answers 1 where the library that is linked has the sizes, the alignments and the limits of this header, else 0. */
+static inline int jsb_sizes_agree(void)
+{
+    static const uint64_t here[12] = {
+        sizeof(struct jangsebit_order) * JANGSEBIT_ORDERS,
+        alignof(struct jangsebit_order),
+        sizeof(uint64_t) * JANGSEBIT_ROOM,
+        alignof(uint64_t),
+        JANGSEBIT_WINDOW,
+        alignof(uint8_t),
+        JANGSEBIT_ORDERS,
+        JANGSEBIT_INSIDES,
+        JANGSEBIT_NUMBERS,
+        JANGSEBIT_SHORTEST,
+        JANGSEBIT_LONGEST,
+        JANGSEBIT_MESSAGE,
+    };
+    uint64_t told[12] = {0, 0, 0, 0, 0, 0, 0, 0, 0, 0, 0, 0};
+    int k;
+    jangsebit_sizes(told);
+    for (k = 0; k < 12; k++) {
+        if (told[k] != here[k]) {
+            return 0;
+        }
+    }
+    return 1;
+}
+
+/* Answers the value of an order id, its first 12 characters in base 36. Refuses with 12 where one of them is none of 0-9
+ * and A-Z; then `value` is left as it was. */
+static inline enum jangsebit_refusal jsb_value(const uint8_t id[JANGSEBIT_TEXT], uint64_t *value)
+{
+    return (enum jangsebit_refusal)jangsebit_value(id, value);
+}
+
+/* Answers the header of a packet, of which all bytes are lent. Refuses with 1 to 6; then `header` is left as it was. */
+static inline enum jangsebit_refusal jsb_header(const uint8_t *packet, size_t size, struct jsb_header *header)
+{
+    uint64_t told[5] = {0, 0, 0, 0, 0};
+    uint64_t refusal = jangsebit_header(packet, size, told);
+    if (refusal == 0) {
+        header->size = (uint16_t)told[0];
+        header->number = (uint32_t)told[1];
+        header->flag = (uint8_t)told[2];
+        header->messages = (uint8_t)told[3];
+        header->milli = (uint32_t)told[4];
+    }
+    return (enum jangsebit_refusal)refusal;
+}
+
+/* Writes a header into the first 12 bytes of a buffer. Refuses with 14 a header that no packet has, then with 11 where it
+ * does not fit; then the buffer is left as it was. */
+static inline enum jangsebit_refusal jsb_write_header(const struct jsb_header *header, uint8_t *buffer, size_t size)
+{
+    return (enum jangsebit_refusal)jangsebit_write_header(
+        header->size, header->number, header->flag, header->messages, header->milli, buffer, size);
+}
+
+/* Judges a packet by all that needs no session. Refuses with 1 to 8, the first that applies, and answers the offset in
+ * the packet that this rests on, 0 where nothing is refused. */
+static inline enum jangsebit_refusal jsb_judge(const uint8_t *packet, size_t size, size_t *offset)
+{
+    uint64_t told[1] = {0};
+    uint64_t refusal = jangsebit_judge(packet, size, told);
+    *offset = (size_t)told[0];
+    return (enum jangsebit_refusal)refusal;
+}
+
+/* Walks a packet: answers where each of its messages lies, into as many places as `room` says, and how many there are.
+ * Refuses with 1 to 7, and answers the offset that this rests on and a count of 0; with 11 where there are fewer places than
+ * messages (JANGSEBIT_MESSAGES are always enough). Then the places are left as they were. */
+static inline enum jangsebit_refusal jsb_walk(
+    const uint8_t *packet, size_t size, struct jsb_place *places, size_t room, size_t *count, size_t *offset)
+{
+    uint64_t told[2] = {0, 0};
+    uint64_t refusal = jangsebit_walk(packet, size, (uint64_t *)(void *)places, 2 * room, told);
+    *offset = (size_t)told[0];
+    *count = (size_t)told[1];
+    return (enum jangsebit_refusal)refusal;
+}
+
+/* Answers the message that the bytes are, in numbers: its type, then its fields in the order of its layout, each one
+ * number but the texts of 14 bytes, which are three (`jsb_text`); of type 28 and of unlisted types the type alone.
+ * Refuses with 7, then 14; then the numbers are left as they were, as are those behind the last field in any case. */
+static inline enum jangsebit_refusal jsb_message(
+    const uint8_t *bytes, size_t size, uint64_t numbers[JANGSEBIT_FIELDS])
+{
+    return (enum jangsebit_refusal)jangsebit_message(bytes, size, numbers);
+}
+
+/* Writes the message of such numbers at a place of a buffer, its exact size, and answers how many bytes that took. Refuses
+ * with 14 a type that is not written, a field that breaks its rule and a number that does not fit in its field, then with
+ * 11 where the message does not fit; then `count` is 0 and the buffer is left as it was. */
+static inline enum jangsebit_refusal jsb_write_message(
+    const uint64_t numbers[JANGSEBIT_FIELDS], uint8_t *buffer, size_t size, size_t at, size_t *count)
+{
+    uint64_t told[1] = {0};
+    uint64_t refusal = jangsebit_write_message(numbers, buffer, size, at, told);
+    *count = (size_t)told[0];
+    return (enum jangsebit_refusal)refusal;
+}
+
+/* The text of 14 bytes that three of a message's numbers are: its first eight bytes, the next four and the last two. */
+static inline void jsb_text(const uint64_t numbers[3], uint8_t text[JANGSEBIT_TEXT])
+{
+    int k;
+    for (k = 0; k < 8; k++) {
+        text[k] = (uint8_t)(numbers[0] >> (56 - 8 * k));
+    }
+    for (k = 0; k < 4; k++) {
+        text[8 + k] = (uint8_t)(numbers[1] >> (24 - 8 * k));
+    }
+    text[12] = (uint8_t)(numbers[2] >> 8);
+    text[13] = (uint8_t)numbers[2];
+}
+
+/* The same the other way. */
+static inline void jsb_put_text(const uint8_t text[JANGSEBIT_TEXT], uint64_t numbers[3])
+{
+    static const int ends[3] = {8, 12, 14};
+    int k = 0, part;
+    for (part = 0; part < 3; part++) {
+        numbers[part] = 0;
+        for (; k < ends[part]; k++) {
+            numbers[part] = numbers[part] << 8 | text[k];
+        }
+    }
 }
 
 /* Answers a refusal in words; of a number that is none, that it is none. */

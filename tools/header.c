@@ -1,7 +1,8 @@
 /* Holds include/jangsebit.h to the archive that it is linked with, at run time: the sizes of what a host holds, the places
  * of an order's fields, and what each function answers and leaves. C11 and C++17; tools/hosts.sh runs it as both.
  *
- * An opening fills the three parts of a session and nothing else, so their sizes show in what it overwrites. */
+ * An opening fills the three parts of a session and nothing else, so their sizes show in what it overwrites; and the
+ * library is asked for them. */
 #include "jangsebit.h"
 
 #include <stdio.h>
@@ -62,6 +63,14 @@ static void sizes(void)
     EXPECT(all(apart.second, sizeof apart.second, STALE));
     EXPECT(all(apart.third, sizeof apart.third, STALE));
     EXPECT(all(apart.fourth, sizeof apart.fourth, STALE));
+
+    uint64_t told[12];
+    jangsebit_sizes(told);
+    EXPECT(told[0] == sizeof apart.orders && told[1] == alignof(struct jangsebit_order));
+    EXPECT(told[2] == sizeof apart.room && told[3] == alignof(uint64_t));
+    EXPECT(told[4] == sizeof apart.window && told[5] == alignof(uint8_t));
+    EXPECT(told[0] == offsetof(struct jangsebit, room) && told[0] + told[2] == offsetof(struct jangsebit, window));
+    EXPECT(jsb_sizes_agree());
 }
 
 static const uint8_t *text(const char *from)
@@ -256,6 +265,61 @@ static void insides(void)
     EXPECT(inside.ask_volume == 900 && inside.bid_volume == 500 && inside.unsolicited == 'N');
 }
 
+/* Ids, headers, packets and messages by themselves. */
+static void alone(void)
+{
+    uint8_t framed[FRAMED], buffer[64];
+    const uint8_t *packet = framed + 2;
+    struct jsb_header header;
+    struct jsb_place places[2];
+    uint64_t value = 99, numbers[JANGSEBIT_FIELDS];
+    uint8_t id[JANGSEBIT_TEXT];
+    size_t count = 99, offset = 99;
+
+    EXPECT(jsb_value(text("00000000001aZZ"), &value) == JANGSEBIT_BAD_QUESTION && value == 99);
+    EXPECT(jsb_value(text("000000000010ZZ"), &value) == JANGSEBIT_DONE && value == 36);
+
+    add(framed, 77, "000000000010ZZ", 'B', 300, 1250000);
+    memset(&header, STALE, sizeof header);
+    EXPECT(jsb_header(packet, 11, &header) == JANGSEBIT_UNDER_HEADER && all(&header, sizeof header, STALE));
+    EXPECT(jsb_header(packet, ADD, &header) == JANGSEBIT_DONE);
+    EXPECT(header.size == ADD && header.number == 77 && header.flag == 0 && header.messages == 1 && header.milli == 0);
+    memset(buffer, STALE, sizeof buffer);
+    EXPECT(jsb_write_header(&header, buffer, 11) == JANGSEBIT_LENT_TOO_SHORT && all(buffer, sizeof buffer, STALE));
+    EXPECT(jsb_write_header(&header, buffer, 12) == JANGSEBIT_DONE && memcmp(buffer, packet, 12) == 0);
+    EXPECT(all(buffer + 12, sizeof buffer - 12, STALE));
+    header.flag = 1;
+    EXPECT(jsb_write_header(&header, buffer, 12) == JANGSEBIT_FIELD_RULE);
+
+    EXPECT(jsb_judge(packet, ADD, &offset) == JANGSEBIT_DONE && offset == 0);
+    memset(places, STALE, sizeof places);
+    EXPECT(jsb_walk(packet, ADD, places, 0, &count, &offset) == JANGSEBIT_LENT_TOO_SHORT && count == 1 && offset == 0);
+    EXPECT(all(places, sizeof places, STALE));
+    EXPECT(jsb_walk(packet, ADD, places, 2, &count, &offset) == JANGSEBIT_DONE && count == 1 && offset == 0);
+    EXPECT(places[0].start == 12 && places[0].size == 55 && all(&places[1], sizeof places[1], STALE));
+
+    memset(numbers, STALE, sizeof numbers);
+    EXPECT(jsb_message(packet + 12, 54, numbers) == JANGSEBIT_BAD_MESSAGE && all(numbers, sizeof numbers, STALE));
+    EXPECT(jsb_message(packet + 12, 55, numbers) == JANGSEBIT_DONE && numbers[0] == 21);
+    EXPECT(numbers[5] == 'B' && numbers[6] == 300 && numbers[10] == 1250000 && numbers[12] == 'Y');
+    jsb_text(numbers + 2, id);
+    EXPECT(memcmp(id, "000000000010ZZ", 14) == 0);
+    memset(buffer, STALE, sizeof buffer);
+    EXPECT(jsb_write_message(numbers, buffer, sizeof buffer, 10, &count) == JANGSEBIT_LENT_TOO_SHORT && count == 0);
+    EXPECT(all(buffer, sizeof buffer, STALE));
+    EXPECT(jsb_write_message(numbers, buffer, sizeof buffer, 9, &count) == JANGSEBIT_DONE && count == 55);
+    EXPECT(memcmp(buffer + 9, packet + 12, 55) == 0 && all(buffer, 9, STALE));
+    jsb_put_text(text("000000000020AA"), numbers + 2);
+    EXPECT(jsb_write_message(numbers, buffer, sizeof buffer, 0, &count) == JANGSEBIT_DONE);
+    EXPECT(memcmp(buffer + 7, "000000000020AA", 14) == 0);
+    numbers[5] = 256 + 'B';
+    EXPECT(jsb_write_message(numbers, buffer, sizeof buffer, 0, &count) == JANGSEBIT_FIELD_RULE && count == 0);
+
+    put(framed + 14, 2, 54);
+    EXPECT(jsb_walk(packet, ADD, places, 2, &count, &offset) == JANGSEBIT_BAD_MESSAGE && count == 0 && offset == 12);
+    EXPECT(jsb_judge(packet, ADD, &offset) == JANGSEBIT_BAD_MESSAGE && offset == 12);
+}
+
 int main(void)
 {
     EXPECT(jangsebit_version() == JANGSEBIT_VERSION);
@@ -264,6 +328,7 @@ int main(void)
     bursts();
     asking();
     insides();
+    alone();
     EXPECT(strcmp(jsb_refusal_words(14), "a field breaks its rule") == 0);
     EXPECT(strcmp(jsb_refusal_words(15), "no refusal has this number") == 0);
     EXPECT(strcmp(jsb_fault_words(JANGSEBIT_INSIDES_FULL), "no room for another inside") == 0);

@@ -1,7 +1,8 @@
 #!/usr/bin/env bash
 # Builds the hosts in C and Rust over the archive of the proved library, and runs them: the header as C11 and C++17
 # with every warning an error, tools/header.c as both, the sample on a capture, the lists of the exports, the tests of
-# host/. Any failure fails it. Where the machine has no archive or lacks a tool, it says so and does the rest.
+# host/, and the programs that README.md shows, which must print what it says. Any failure fails it. Where the machine
+# has no archive or lacks a tool, it says so and does the rest.
 #
 #   tools/hosts.sh            CC, CXX and CARGO_TARGET_DIR are heeded
 set -eu
@@ -60,6 +61,15 @@ else
     without 'exports, header and Rust agree' 'no python3'
 fi
 
+# the first code under a heading of README.md
+shown() { awk -v head="$1" '$0 == head { there = 1 } there && /^```/ { if (code) exit; code = 1; next } code' README.md; }
+
+# a program prints one line, and README.md has it
+prints() {
+    local line
+    line=$("$@") && grep -qF "\`$line\`" README.md && echo "$line"
+}
+
 # ---- C and C++
 c_header() { $cc -std=c11 $warn -c -o "$work/header.c.o" tools/header.c; }
 cxx_header() { $cxx -x c++ -std=c++17 $warn -c -o "$work/header.cxx.o" tools/header.c; }
@@ -71,6 +81,11 @@ replays() { "$work/host" samples/night.capture >"$work/told" && diff "$work/told
 quotes() {
     cat crates/capture/stdout samples/night.best >"$work/due"
     "$work/host" samples/night.capture JNGSB NONE >"$work/told" && diff "$work/told" "$work/due"
+}
+
+readme_c() {
+    shown '## From C' >"$work/readme.c"
+    $cc -std=c11 $warn "$work/readme.c" target/staticlib/libexports.a -o "$work/readme" && prints "$work/readme"
 }
 
 if has ${cc%% *}; then
@@ -91,6 +106,7 @@ if [ -n "$archives" ]; then
         part 'sample linked' linked
         part 'sample prints what capture prints' replays
         part 'sample asks for best prices' quotes
+        part 'README, from C' readme_c
     fi
 fi
 
@@ -99,9 +115,26 @@ if [ -z "$archives" ]; then
     without 'what is linked with the archive' 'there is none'
 elif has cargo; then
     in_host() { (cd host && cargo test --release --offline); }
+    readme_rust() {
+        mkdir -p "$work/readme-rust/src"
+        shown '## From Rust' >"$work/readme-rust/src/main.rs"
+        cat >"$work/readme-rust/Cargo.toml" <<EOF
+[package]
+name = "readme"
+version = "0.1.0"
+edition = "2021"
+
+[dependencies]
+jangsebit = { path = "$PWD/host/jangsebit" }
+
+[workspace]
+EOF
+        prints cargo run --quiet --release --offline --manifest-path "$work/readme-rust/Cargo.toml" --target-dir "$work/readme-target"
+    }
     part 'cargo test in host/' in_host
+    part 'README, from Rust' readme_rust
 else
-    without 'cargo test in host/' 'no cargo'
+    without 'cargo test in host/, README from Rust' 'no cargo'
 fi
 
 echo "hosts: $passed passed, $failed failed, $left left out"

@@ -49,10 +49,23 @@ use Rattle.session.proofs.asking.best.Reads as session-best
 use Rattle.session.proofs.asking.inside.Reads as session-inside
 use Rattle.session.proofs.asking.gap.Reads as session-gap
 use Rattle.session.proofs.asking.requests.Reads as session-requests
-use Rattle.replay.proofs.replay_value.Reads as replay-value
-use Rattle.replay.proofs.replay_header.Reads as replay-header
-use Rattle.replay.proofs.replay_write_header.Reads as replay-write-header
-use Rattle.replay.proofs.replay_message.Reads as replay-message
+use Rattle.exports.proofs.jangsebit_value.Reads as exports-value
+use Rattle.exports.proofs.jangsebit_header.Reads as exports-header
+use Rattle.exports.proofs.jangsebit_write_header.Reads as exports-write-header
+use Rattle.exports.proofs.jangsebit_judge.Reads as exports-judge
+use Rattle.exports.proofs.jangsebit_walk.Reads as exports-walk
+use Rattle.exports.proofs.jangsebit_message.Reads as exports-message
+use Rattle.exports.proofs.jangsebit_write_message.Reads as exports-write-message
+use Rattle.exports.proofs.jangsebit_sizes.Reads as exports-sizes
+use Rattle.exports.proofs.jangsebit_numbers.Reads as exports-numbers
+use Rattle.exports.proofs.jangsebit_inside.Reads as exports-inside
+use Rattle.exports.proofs.jangsebit_requests.Reads as exports-requests
+use Rattle.exports.proofs.jangsebit_gap.Reads as exports-gap
+use Rattle.exports.proofs.jangsebit_pass.Reads as exports-pass
+use Rattle.exports.proofs.jangsebit_open as exports-open
+use Rattle.exports.proofs.jangsebit_packets as exports-packets
+use Rattle.exports.proofs.jangsebit_order as exports-order
+use Rattle.exports.proofs.jangsebit_quotes as exports-quotes
 
 -- of any two answers that a contract admits for one argument, both are the same
 abbrev Once : {K : Type 0} {A R S : K → Type 0} → ((κs : K) → A κs → R κs → S κs → Type 0) → Type 0
@@ -257,32 +270,147 @@ session-requests-once κs a one other s t p q = once (p .0) (q .0)
 pub session-requests-memory : (κs : _) (a : _) (one other : _) (s t : _) → session-requests.Post κs a one s → session-requests.Post κs a other t → now (s .1 .1 .0) ≡ now (t .1 .1 .0)
 session-requests-memory κs a one other s t p q = once (p .1) (q .1)
 
--- ---- replay: `replay_burst` and `replay_ask` are left out. Their contracts bound what is written and do not fix it: they
--- serve the comparison from Rust, and the calls that they make are held above.
+-- ---- exports, the answer of each and all that it is lent to write
 
-pub replay-value-once : Once replay-value.Post
-replay-value-once κs a one other s t p q = once (p .0) (q .0)
+pub exports-value-once : Once exports-value.Post
+exports-value-once κs a one other s t p q = once (p .0) (q .0)
 
-pub replay-value-memory : (κs : _) (a : _) (one other : _) (s t : _) → replay-value.Post κs a one s → replay-value.Post κs a other t → now (s .1 .0) ≡ now (t .1 .0)
-replay-value-memory κs a one other s t p q = once (p .1) (q .1)
+pub exports-value-told : (κs : _) (a : _) (one other : _) (s t : _) → exports-value.Post κs a one s → exports-value.Post κs a other t → now (s .1 .0) ≡ now (t .1 .0)
+exports-value-told κs a one other s t p q = once (p .1) (q .1)
 
-pub replay-header-once : Once replay-header.Post
-replay-header-once κs a one other s t p q = once (p .0) (q .0)
+pub exports-header-once : Once exports-header.Post
+exports-header-once κs a one other s t p q = once (p .0) (q .0)
 
-pub replay-header-memory : (κs : _) (a : _) (one other : _) (s t : _) → replay-header.Post κs a one s → replay-header.Post κs a other t → now (s .1 .0) ≡ now (t .1 .0)
-replay-header-memory κs a one other s t p q = once (p .1) (q .1)
+pub exports-header-told : (κs : _) (a : _) (one other : _) (s t : _) → exports-header.Post κs a one s → exports-header.Post κs a other t → now (s .1 .0) ≡ now (t .1 .0)
+exports-header-told κs a one other s t p q = once (p .1) (q .1)
 
-pub replay-write-header-once : Once replay-write-header.Post
-replay-write-header-once κs a one other s t p q = once (p .0) (q .0)
+pub exports-write-header-once : Once exports-write-header.Post
+exports-write-header-once κs a one other s t p q = once (p .0) (q .0)
 
-pub replay-write-header-memory : (κs : _) (a : _) (one other : _) (s t : _) → replay-write-header.Post κs a one s → replay-write-header.Post κs a other t → now (s .1 .1 .1 .1 .1 .0) ≡ now (t .1 .1 .1 .1 .1 .0)
-replay-write-header-memory κs a one other s t p q = once (p .1) (q .1)
+pub exports-write-header-buffer : (κs : _) (a : _) (one other : _) (s t : _) → exports-write-header.Post κs a one s → exports-write-header.Post κs a other t → now (s .1 .1 .1 .1 .1 .0) ≡ now (t .1 .1 .1 .1 .1 .0)
+exports-write-header-buffer κs a one other s t p q = once (p .1) (q .1)
 
-pub replay-message-once : Once replay-message.Post
-replay-message-once κs a one other s t p q = once (p .0) (q .0)
+pub exports-judge-once : Once exports-judge.Post
+exports-judge-once κs a one other s t p q = once (p .0) (q .0)
 
-pub replay-message-buffer : (κs : _) (a : _) (one other : _) (s t : _) → replay-message.Post κs a one s → replay-message.Post κs a other t → now (s .1 .0) ≡ now (t .1 .0)
-replay-message-buffer κs a one other s t p q = once (p .1 .0) (q .1 .0)
+pub exports-judge-told : (κs : _) (a : _) (one other : _) (s t : _) → exports-judge.Post κs a one s → exports-judge.Post κs a other t → now (s .1 .0) ≡ now (t .1 .0)
+exports-judge-told κs a one other s t p q = once (p .1) (q .1)
 
-pub replay-message-refusals : (κs : _) (a : _) (one other : _) (s t : _) → replay-message.Post κs a one s → replay-message.Post κs a other t → now (s .1 .1 .1 .0) ≡ now (t .1 .1 .1 .0)
-replay-message-refusals κs a one other s t p q = once (p .1 .1) (q .1 .1)
+pub exports-walk-once : Once exports-walk.Post
+exports-walk-once κs a one other s t p q = once (p .0) (q .0)
+
+pub exports-walk-places : (κs : _) (a : _) (one other : _) (s t : _) → exports-walk.Post κs a one s → exports-walk.Post κs a other t → now (s .1 .0) ≡ now (t .1 .0)
+exports-walk-places κs a one other s t p q = once (p .1 .0) (q .1 .0)
+
+pub exports-walk-told : (κs : _) (a : _) (one other : _) (s t : _) → exports-walk.Post κs a one s → exports-walk.Post κs a other t → now (s .1 .1 .0) ≡ now (t .1 .1 .0)
+exports-walk-told κs a one other s t p q = once (p .1 .1) (q .1 .1)
+
+pub exports-message-once : Once exports-message.Post
+exports-message-once κs a one other s t p q = once (p .0) (q .0)
+
+pub exports-message-told : (κs : _) (a : _) (one other : _) (s t : _) → exports-message.Post κs a one s → exports-message.Post κs a other t → now (s .1 .0) ≡ now (t .1 .0)
+exports-message-told κs a one other s t p q = once (p .1) (q .1)
+
+pub exports-write-message-once : Once exports-write-message.Post
+exports-write-message-once κs a one other s t p q = once (p .0) (q .0)
+
+pub exports-write-message-buffer : (κs : _) (a : _) (one other : _) (s t : _) → exports-write-message.Post κs a one s → exports-write-message.Post κs a other t → now (s .1 .0) ≡ now (t .1 .0)
+exports-write-message-buffer κs a one other s t p q = once (p .1 .0) (q .1 .0)
+
+pub exports-write-message-told : (κs : _) (a : _) (one other : _) (s t : _) → exports-write-message.Post κs a one s → exports-write-message.Post κs a other t → now (s .1 .1 .1 .0) ≡ now (t .1 .1 .1 .0)
+exports-write-message-told κs a one other s t p q = once (p .1 .1) (q .1 .1)
+
+pub exports-sizes-told : (κs : _) (a : _) (one other : _) (s t : _) → exports-sizes.Post κs a one s → exports-sizes.Post κs a other t → now (s .0) ≡ now (t .0)
+exports-sizes-told κs a one other s t p q = once (p) (q)
+
+pub exports-numbers-told : (κs : _) (a : _) (one other : _) (s t : _) → exports-numbers.Post κs a one s → exports-numbers.Post κs a other t → now (s .1 .0) ≡ now (t .1 .0)
+exports-numbers-told κs a one other s t p q = once (p) (q)
+
+pub exports-inside-once : Once exports-inside.Post
+exports-inside-once κs a one other s t p q = once (p .0) (q .0)
+
+pub exports-inside-told : (κs : _) (a : _) (one other : _) (s t : _) → exports-inside.Post κs a one s → exports-inside.Post κs a other t → now (s .1 .1 .0) ≡ now (t .1 .1 .0)
+exports-inside-told κs a one other s t p q = once (p .1) (q .1)
+
+pub exports-requests-once : Once exports-requests.Post
+exports-requests-once κs a one other s t p q = once (p .0) (q .0)
+
+pub exports-requests-buffer : (κs : _) (a : _) (one other : _) (s t : _) → exports-requests.Post κs a one s → exports-requests.Post κs a other t → now (s .1 .1 .0) ≡ now (t .1 .1 .0)
+exports-requests-buffer κs a one other s t p q = once (p .1 .0) (q .1 .0)
+
+pub exports-requests-told : (κs : _) (a : _) (one other : _) (s t : _) → exports-requests.Post κs a one s → exports-requests.Post κs a other t → now (s .1 .1 .1 .0) ≡ now (t .1 .1 .1 .0)
+exports-requests-told κs a one other s t p q = once (p .1 .1) (q .1 .1)
+
+pub exports-gap-told : (κs : _) (a : _) (one other : _) (s t : _) → exports-gap.Post κs a one s → exports-gap.Post κs a other t → now (s .1 .1 .1 .0) ≡ now (t .1 .1 .1 .0)
+exports-gap-told κs a one other s t p q = once (p) (q)
+
+pub exports-pass-told : (κs : _) (a : _) (one other : _) (s t : _) → exports-pass.Post κs a one s → exports-pass.Post κs a other t → now (s .1 .1 .1 .0) ≡ now (t .1 .1 .1 .0)
+exports-pass-told κs a one other s t p q = once (p .0) (q .0)
+
+pub exports-pass-room : (κs : _) (a : _) (one other : _) (s t : _) → exports-pass.Post κs a one s → exports-pass.Post κs a other t → (session : Session) → Ruled (held session (now (a .0)) (now (a .1 .0))) → now (s .0) ≡ now (t .0)
+exports-pass-room κs a one other s t p q session rule = room-of (once (p .1 .0 session rule) (q .1 .0 session rule))
+
+pub exports-pass-window : (κs : _) (a : _) (one other : _) (s t : _) → exports-pass.Post κs a one s → exports-pass.Post κs a other t → (session : Session) → Ruled (held session (now (a .0)) (now (a .1 .0))) → now (s .1 .0) ≡ now (t .1 .0)
+exports-pass-window κs a one other s t p q session rule = window-of (once (p .1 .0 session rule) (q .1 .0 session rule))
+
+-- the four that are lent the orders: their walks are by hand, and their clauses are told as the reader's are
+
+abbrev order-refusal : (κs : _) (session : _) (room : _) (id : _) (told : _) (session′ : _) (room′ : _) (id′ : _) (told′ : _) (r : _) → Told (λ w. exports-order.ensures-refusal (w .𝓤) (w .H) κs (w .𝓖 .A) (w .𝓜 .mem) (w .𝓡 .run) session room id told session′ room′ id′ told′ r)
+order-refusal κs session room id told session′ room′ id′ told′ r = all-models (λ w. exports-order.ensures-refusal (w .𝓤) (w .H) κs (w .𝓖 .A) (w .𝓜 .mem) (w .𝓡 .run) session room id told session′ room′ id′ told′ r) (λ w. r-last _) (λ w. refl) (λ w. refl) (λ w. refl)
+
+abbrev order-told : (κs : _) (session : _) (room : _) (id : _) (told : _) (session′ : _) (room′ : _) (id′ : _) (told′ : _) (r : _) → Told (λ w. exports-order.ensures-told (w .𝓤) (w .H) κs (w .𝓖 .A) (w .𝓜 .mem) (w .𝓡 .run) session room id told session′ room′ id′ told′ r)
+order-told κs session room id told session′ room′ id′ told′ r = all-models (λ w. exports-order.ensures-told (w .𝓤) (w .H) κs (w .𝓖 .A) (w .𝓜 .mem) (w .𝓡 .run) session room id told session′ room′ id′ told′ r) (λ w. r-last _) (λ w. refl) (λ w. refl) (λ w. refl)
+
+abbrev quotes-refusal : (κs : _) (session : _) (room : _) (asked : _) (replies : _) (session′ : _) (room′ : _) (asked′ : _) (replies′ : _) (r : _) → Told (λ w. exports-quotes.ensures-refusal (w .𝓤) (w .H) κs (w .𝓖 .A) (w .𝓜 .mem) (w .𝓡 .run) session room asked replies session′ room′ asked′ replies′ r)
+quotes-refusal κs session room asked replies session′ room′ asked′ replies′ r = all-models (λ w. exports-quotes.ensures-refusal (w .𝓤) (w .H) κs (w .𝓖 .A) (w .𝓜 .mem) (w .𝓡 .run) session room asked replies session′ room′ asked′ replies′ r) (λ w. r-last _) (λ w. refl) (λ w. refl) (λ w. refl)
+
+abbrev quotes-replies : (κs : _) (session : _) (room : _) (asked : _) (replies : _) (session′ : _) (room′ : _) (asked′ : _) (replies′ : _) (r : _) → Told (λ w. exports-quotes.ensures-replies (w .𝓤) (w .H) κs (w .𝓖 .A) (w .𝓜 .mem) (w .𝓡 .run) session room asked replies session′ room′ asked′ replies′ r)
+quotes-replies κs session room asked replies session′ room′ asked′ replies′ r = all-models (λ w. exports-quotes.ensures-replies (w .𝓤) (w .H) κs (w .𝓖 .A) (w .𝓜 .mem) (w .𝓡 .run) session room asked replies session′ room′ asked′ replies′ r) (λ w. r-last _) (λ w. refl) (λ w. refl) (λ w. refl)
+
+abbrev open-held : (κs : _) (session : _) (room : _) (window : _) (number : _) (session′ : _) (room′ : _) (window′ : _) (number′ : _) (r : _) → Told (λ w. exports-open.ensures-opened (w .𝓤) (w .H) κs (w .𝓖 .A) (w .𝓜 .mem) (w .𝓡 .run) session room window number session′ room′ window′ number′ r)
+open-held κs session room window number session′ room′ window′ number′ r = all-models (λ w. exports-open.ensures-opened (w .𝓤) (w .H) κs (w .𝓖 .A) (w .𝓜 .mem) (w .𝓡 .run) session room window number session′ room′ window′ number′ r) (λ w. r-last _) (λ w. refl) (λ w. refl) (λ w. refl)
+
+abbrev packets-held : (κs : _) (session : _) (room : _) (window : _) (packets : _) (single : _) (count : _) (answers : _) (told : _) (session′ : _) (room′ : _) (window′ : _) (packets′ : _) (single′ : _) (count′ : _) (answers′ : _) (told′ : _) (r : _) → Told (λ w. exports-packets.ensures-taken (w .𝓤) (w .H) κs (w .𝓖 .A) (w .𝓜 .mem) (w .𝓡 .run) session room window packets single count answers told session′ room′ window′ packets′ single′ count′ answers′ told′ r)
+packets-held κs session room window packets single count answers told session′ room′ window′ packets′ single′ count′ answers′ told′ r = all-models (λ w. exports-packets.ensures-taken (w .𝓤) (w .H) κs (w .𝓖 .A) (w .𝓜 .mem) (w .𝓡 .run) session room window packets single count answers told session′ room′ window′ packets′ single′ count′ answers′ told′ r) (λ w. r-last _) (λ w. refl) (λ w. refl) (λ w. refl)
+
+abbrev packets-answers : (κs : _) (session : _) (room : _) (window : _) (packets : _) (single : _) (count : _) (answers : _) (told : _) (session′ : _) (room′ : _) (window′ : _) (packets′ : _) (single′ : _) (count′ : _) (answers′ : _) (told′ : _) (r : _) → Told (λ w. exports-packets.ensures-answers (w .𝓤) (w .H) κs (w .𝓖 .A) (w .𝓜 .mem) (w .𝓡 .run) session room window packets single count answers told session′ room′ window′ packets′ single′ count′ answers′ told′ r)
+packets-answers κs session room window packets single count answers told session′ room′ window′ packets′ single′ count′ answers′ told′ r = all-models (λ w. exports-packets.ensures-answers (w .𝓤) (w .H) κs (w .𝓖 .A) (w .𝓜 .mem) (w .𝓡 .run) session room window packets single count answers told session′ room′ window′ packets′ single′ count′ answers′ told′ r) (λ w. r-last _) (λ w. refl) (λ w. refl) (λ w. refl)
+
+abbrev packets-told : (κs : _) (session : _) (room : _) (window : _) (packets : _) (single : _) (count : _) (answers : _) (told : _) (session′ : _) (room′ : _) (window′ : _) (packets′ : _) (single′ : _) (count′ : _) (answers′ : _) (told′ : _) (r : _) → Told (λ w. exports-packets.ensures-told (w .𝓤) (w .H) κs (w .𝓖 .A) (w .𝓜 .mem) (w .𝓡 .run) session room window packets single count answers told session′ room′ window′ packets′ single′ count′ answers′ told′ r)
+packets-told κs session room window packets single count answers told session′ room′ window′ packets′ single′ count′ answers′ told′ r = all-models (λ w. exports-packets.ensures-told (w .𝓤) (w .H) κs (w .𝓖 .A) (w .𝓜 .mem) (w .𝓡 .run) session room window packets single count answers told session′ room′ window′ packets′ single′ count′ answers′ told′ r) (λ w. r-last _) (λ w. refl) (λ w. refl) (λ w. refl)
+
+pub exports-order-once : (κs : _) (session : _) (room : _) (id : _) (told : _) (session′ : _) (room′ : _) (id′ : _) (told′ : _) (one other : _) → AllOf (order-refusal κs session room id told session′ room′ id′ told′ one .tells) → AllOf (order-refusal κs session room id told session′ room′ id′ told′ other .tells) → one ≡ other
+exports-order-once κs session room id told session′ room′ id′ told′ one other = once
+
+pub exports-quotes-once : (κs : _) (session : _) (room : _) (asked : _) (replies : _) (session′ : _) (room′ : _) (asked′ : _) (replies′ : _) (one other : _) → AllOf (quotes-refusal κs session room asked replies session′ room′ asked′ replies′ one .tells) → AllOf (quotes-refusal κs session room asked replies session′ room′ asked′ replies′ other .tells) → one ≡ other
+exports-quotes-once κs session room asked replies session′ room′ asked′ replies′ one other = once
+
+pub exports-order-told : (κs : _) (session : _) (room : _) (id : _) (told : _) (session′ : _) (room′ : _) (id′ : _) (one other : _) (r q : _) → AllOf (order-told κs session room id told session′ room′ id′ (record { entry = told; exit = one }) r .tells) → AllOf (order-told κs session room id told session′ room′ id′ (record { entry = told; exit = other }) q .tells) → now one ≡ now other
+exports-order-told κs session room id told session′ room′ id′ one other r q = once
+
+pub exports-quotes-replies : (κs : _) (session : _) (room : _) (asked : _) (replies : _) (session′ : _) (room′ : _) (asked′ : _) (one other : _) (r q : _) → AllOf (quotes-replies κs session room asked replies session′ room′ asked′ (record { entry = replies; exit = one }) r .tells) → AllOf (quotes-replies κs session room asked replies session′ room′ asked′ (record { entry = replies; exit = other }) q .tells) → now one ≡ now other
+exports-quotes-replies κs session room asked replies session′ room′ asked′ one other r q = once
+
+pub exports-packets-answers : (κs : _) (session : _) (room : _) (window : _) (packets : _) (single : _) (count : _) (answers : _) (told : _) (session′ : _) (room′ : _) (window′ : _) (packets′ : _) (single′ : _) (count′ : _) (told′ : _) (one other : _) (r q : _) → AllOf (packets-answers κs session room window packets single count answers told session′ room′ window′ packets′ single′ count′ (record { entry = answers; exit = one }) told′ r .tells) → AllOf (packets-answers κs session room window packets single count answers told session′ room′ window′ packets′ single′ count′ (record { entry = answers; exit = other }) told′ q .tells) → now one ≡ now other
+exports-packets-answers κs session room window packets single count answers told session′ room′ window′ packets′ single′ count′ told′ one other r q = once
+
+pub exports-packets-told : (κs : _) (session : _) (room : _) (window : _) (packets : _) (single : _) (count : _) (answers : _) (told : _) (session′ : _) (room′ : _) (window′ : _) (packets′ : _) (single′ : _) (count′ : _) (answers′ : _) (one other : _) (r q : _) → AllOf (packets-told κs session room window packets single count answers told session′ room′ window′ packets′ single′ count′ answers′ (record { entry = told; exit = one }) r .tells) → AllOf (packets-told κs session room window packets single count answers told session′ room′ window′ packets′ single′ count′ answers′ (record { entry = told; exit = other }) q .tells) → now one ≡ now other
+exports-packets-told κs session room window packets single count answers told session′ room′ window′ packets′ single′ count′ answers′ one other r q = once
+
+pub exports-open-session : (κs : _) (session : _) (room : _) (window : _) (number : _) (number′ : _) (session₁ : _) (room₁ : _) (window₁ : _) (session₂ : _) (room₂ : _) (window₂ : _) (r q : _) → AllOf (open-held κs session room window number (record { entry = session; exit = session₁ }) (record { entry = room; exit = room₁ }) (record { entry = window; exit = window₁ }) number′ r .tells) → AllOf (open-held κs session room window number (record { entry = session; exit = session₂ }) (record { entry = room; exit = room₂ }) (record { entry = window; exit = window₂ }) number′ q .tells) → now session₁ ≡ now session₂
+exports-open-session κs session room window number number′ session₁ room₁ window₁ session₂ room₂ window₂ r q one other = session-of (once one other)
+
+pub exports-open-room : (κs : _) (session : _) (room : _) (window : _) (number : _) (number′ : _) (session₁ : _) (room₁ : _) (window₁ : _) (session₂ : _) (room₂ : _) (window₂ : _) (r q : _) → AllOf (open-held κs session room window number (record { entry = session; exit = session₁ }) (record { entry = room; exit = room₁ }) (record { entry = window; exit = window₁ }) number′ r .tells) → AllOf (open-held κs session room window number (record { entry = session; exit = session₂ }) (record { entry = room; exit = room₂ }) (record { entry = window; exit = window₂ }) number′ q .tells) → now room₁ ≡ now room₂
+exports-open-room κs session room window number number′ session₁ room₁ window₁ session₂ room₂ window₂ r q one other = room-of (once one other)
+
+pub exports-open-window : (κs : _) (session : _) (room : _) (window : _) (number : _) (number′ : _) (session₁ : _) (room₁ : _) (window₁ : _) (session₂ : _) (room₂ : _) (window₂ : _) (r q : _) → AllOf (open-held κs session room window number (record { entry = session; exit = session₁ }) (record { entry = room; exit = room₁ }) (record { entry = window; exit = window₁ }) number′ r .tells) → AllOf (open-held κs session room window number (record { entry = session; exit = session₂ }) (record { entry = room; exit = room₂ }) (record { entry = window; exit = window₂ }) number′ q .tells) → now window₁ ≡ now window₂
+exports-open-window κs session room window number number′ session₁ room₁ window₁ session₂ room₂ window₂ r q one other = window-of (once one other)
+
+pub exports-packets-session : (κs : _) (session : _) (room : _) (window : _) (packets : _) (single : _) (count : _) (answers : _) (told : _) (packets′ : _) (single′ : _) (count′ : _) (answers′ : _) (told′ : _) (session₁ : _) (room₁ : _) (window₁ : _) (session₂ : _) (room₂ : _) (window₂ : _) (r q : _) → AllOf (packets-held κs session room window packets single count answers told (record { entry = session; exit = session₁ }) (record { entry = room; exit = room₁ }) (record { entry = window; exit = window₁ }) packets′ single′ count′ answers′ told′ r .tells) → AllOf (packets-held κs session room window packets single count answers told (record { entry = session; exit = session₂ }) (record { entry = room; exit = room₂ }) (record { entry = window; exit = window₂ }) packets′ single′ count′ answers′ told′ q .tells) → now session₁ ≡ now session₂
+exports-packets-session κs session room window packets single count answers told packets′ single′ count′ answers′ told′ session₁ room₁ window₁ session₂ room₂ window₂ r q one other = session-of (once one other)
+
+pub exports-packets-room : (κs : _) (session : _) (room : _) (window : _) (packets : _) (single : _) (count : _) (answers : _) (told : _) (packets′ : _) (single′ : _) (count′ : _) (answers′ : _) (told′ : _) (session₁ : _) (room₁ : _) (window₁ : _) (session₂ : _) (room₂ : _) (window₂ : _) (r q : _) → AllOf (packets-held κs session room window packets single count answers told (record { entry = session; exit = session₁ }) (record { entry = room; exit = room₁ }) (record { entry = window; exit = window₁ }) packets′ single′ count′ answers′ told′ r .tells) → AllOf (packets-held κs session room window packets single count answers told (record { entry = session; exit = session₂ }) (record { entry = room; exit = room₂ }) (record { entry = window; exit = window₂ }) packets′ single′ count′ answers′ told′ q .tells) → now room₁ ≡ now room₂
+exports-packets-room κs session room window packets single count answers told packets′ single′ count′ answers′ told′ session₁ room₁ window₁ session₂ room₂ window₂ r q one other = room-of (once one other)
+
+pub exports-packets-window : (κs : _) (session : _) (room : _) (window : _) (packets : _) (single : _) (count : _) (answers : _) (told : _) (packets′ : _) (single′ : _) (count′ : _) (answers′ : _) (told′ : _) (session₁ : _) (room₁ : _) (window₁ : _) (session₂ : _) (room₂ : _) (window₂ : _) (r q : _) → AllOf (packets-held κs session room window packets single count answers told (record { entry = session; exit = session₁ }) (record { entry = room; exit = room₁ }) (record { entry = window; exit = window₁ }) packets′ single′ count′ answers′ told′ r .tells) → AllOf (packets-held κs session room window packets single count answers told (record { entry = session; exit = session₂ }) (record { entry = room; exit = room₂ }) (record { entry = window; exit = window₂ }) packets′ single′ count′ answers′ told′ q .tells) → now window₁ ≡ now window₂
+exports-packets-window κs session room window packets single count answers told packets′ single′ count′ answers′ told′ session₁ room₁ window₁ session₂ room₂ window₂ r q one other = window-of (once one other)

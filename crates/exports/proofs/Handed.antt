@@ -16,7 +16,7 @@ use Rattle.session.specs.Meaning.{Held, Meaning, overnight, rep}
 use Rattle.session.specs.Bursts.{rowsOf}
 use Rattle.session.proofs.Calls.{chosen, one-packet, short}
 use Rattle.exports.specs.Handed.{answersBy, bytesBy, mostBy, packetsBy, shortBy, takenBy, takenTold}
-use Rattle.exports.specs.Told.{over}
+use Rattle.single.specs.Over.{over}
 
 -- ---- either kind of bytes
 

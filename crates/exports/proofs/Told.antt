@@ -15,7 +15,8 @@ use Rattle.session.specs.Quoting.{refusalIn}
 use Rattle.session.specs.Meaning.{Held, Ruled, codeIn, endIn, faultsIn, liveIn, nextIn, view}
 use Rattle.session.proofs.Answers.{live-few, orders-long}
 use Rattle.book_room.specs.Room.{insidesFrom}
-use Rattle.exports.specs.Told.{firmNumber, numbersIn, numbersOf, orderNumbers, over, toldBy}
+use Rattle.single.specs.Over.{over}
+use Rattle.exports.specs.Told.{firmNumber, numbersIn, numbersOf, orderNumbers, toldBy}
 
 pub numbers-told : (room old : List ℕ) {next end code : ℕ} {faults : Faults} → next ≡ nextIn room → end ≡ endIn room → code ≡ codeIn room → faults ≡ faultsIn room
     → over (next ∷ end ∷ liveIn room ∷ getD room 3 0 ∷ code ∷ faults .number ∷ faults .count ∷ faults .reason ∷ []) old ≡ over (numbersIn room) old

@@ -10,7 +10,7 @@ use Rattle.merge.specs.State.{takeAll}
 use Rattle.window_taking.specs.Turns.{endFrom, packetsIn}
 use Rattle.session.specs.Meaning.{Meaning, overnight}
 use Rattle.session.specs.Bursts.{rowsOf}
-use Rattle.exports.specs.Told.{over}
+use Rattle.single.specs.Over.{over}
 
 -- how many the host says: one, where the bytes are one packet
 abbrev pub mostBy : ℕ → ℕ → ℕ

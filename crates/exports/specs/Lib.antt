@@ -2,3 +2,4 @@
 pub mod Told
 pub mod Handed
 pub mod Passed
+pub mod Sizes

@@ -1,8 +1,8 @@
 -- The numbers in which an export tells an answer. Where it refuses, what was lent for them stays as it was.
 -- Assumes nothing.
 use mathlib.Core.List.{List, [], _∷_}
-use Prim.Native.Nat.{ℕ, suc}
-use lib.ListN.{getD, length, set}
+use Prim.Native.Nat.{ℕ}
+use lib.ListN.{getD, length}
 use Rattle.wire.specs.Number.{num, part}
 use Rattle.window.specs.declared.asking.Asked.{Asked}
 use Rattle.window.specs.declared.asking.Asked.the-variants as asked
@@ -16,15 +16,8 @@ use Rattle.book.specs.declared.tables.Inside.{Inside}
 use Rattle.book.specs.declared.tables.Order.{Order}
 use Rattle.session.specs.declared.quoting.Quoted.{Quoted}
 use Rattle.session.specs.declared.quoting.Quoted.the-variants as quoted
+use Rattle.single.specs.Over.{over}
 use Rattle.session.specs.Meaning.{Meaning, codeIn, endIn, faultsIn, liveIn, nextIn}
-
--- numbers, one after the other, over what was lent for them
-abbrev pub overFrom : ℕ → List ℕ → List ℕ → List ℕ
-overFrom k [] old = old
-overFrom k (n ∷ ns) old = overFrom (suc k) ns (set old k n)
-
-abbrev pub over : List ℕ → List ℕ → List ℕ
-over ns old = overFrom 0 ns old
 
 -- ---- of a session: next, end, how many orders are live and insides held, the code, and of the faults the first one's number, their
 -- count and the first one's reason

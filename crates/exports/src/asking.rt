@@ -22,7 +22,8 @@ ghost use Rattle.session.specs.Meaning.{held, tablesIn, Ruled};
 ghost use Rattle.session.specs.Asking.{gapFrom, gapsOf, lineIn};
 ghost use Rattle.session.specs.Quoting.{quotedOf, quotesAfter, refusalIn};
 ghost use Rattle.session.specs.declared.state.Session.{Session as Table};
-ghost use Rattle.exports.specs.Told.{askedRefusal, askedTold, firmNumber, gapNumbers, insideNumbers, insideTold, numbersIn, orderNumbers, orderTold, over, quotedRefusal};
+ghost use Rattle.single.specs.Over.{over};
+ghost use Rattle.exports.specs.Told.{askedRefusal, askedTold, firmNumber, gapNumbers, insideNumbers, insideTold, numbersIn, orderNumbers, orderTold, quotedRefusal};
 
 // Told are next, end, how many orders are live and insides held, the code of the last Trading Session, and of the
 // faults the first one's number, their count and the first one's reason.

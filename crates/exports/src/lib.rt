@@ -1,9 +1,18 @@
-// Exports for C and Rust over one session that the host holds: the orders, and beside them the room and
+// Exports for C and Rust. Most are over one session that the host holds: the orders, and beside them the room and
 // the window, which it lends with each call. Told numbers go into lists that are lent too.
+mod alone;
 mod asking;
 mod passing;
+mod sizes;
 mod taking;
 
+pub use alone::jangsebit_header;
+pub use alone::jangsebit_judge;
+pub use alone::jangsebit_message;
+pub use alone::jangsebit_value;
+pub use alone::jangsebit_walk;
+pub use alone::jangsebit_write_header;
+pub use alone::jangsebit_write_message;
 pub use asking::jangsebit_gap;
 pub use asking::jangsebit_inside;
 pub use asking::jangsebit_numbers;
@@ -11,6 +20,7 @@ pub use asking::jangsebit_requests;
 use book_room::room::Room;
 pub use passing::jangsebit_pass;
 use session::state::Session;
+pub use sizes::jangsebit_sizes;
 use window::places::Window;
 ghost use mathlib.Core.Path.{_≡_};
 ghost use Prim.Native.Nat.{ℕ};

@@ -8,7 +8,7 @@ ghost use Rattle.session.specs.Asking.{lineIn};
 ghost use Rattle.session.specs.Passing.{passedOf, passOn};
 ghost use Rattle.session.specs.declared.state.Session.{Session};
 ghost use Rattle.exports.specs.Passed.{passNumbers};
-ghost use Rattle.exports.specs.Told.{over};
+ghost use Rattle.single.specs.Over.{over};
 
 fn tell(told: &mut [u64; 2], passed: Passed)
     ensures { λ _. ⌜ now (told .exit) ≡ over (passNumbers passed) (now (told .entry)) ⌝ }

@@ -4,7 +4,6 @@
 
 mod questions;
 mod timing;
-mod whole;
 
 use compare::capture::Capture;
 use compare::feed::{self, Lines};
@@ -125,7 +124,6 @@ fn packets_of(name: &str, capture: &Capture, rounds: usize) {
         };
         row(&name, library.typical() / count, twin.typical() / count);
     }
-    whole::measure(capture, rounds);
 }
 
 /// The packets of each piece of a capture; a burst is not cut.

@@ -2,10 +2,11 @@
 
 use compare::night::{Manners, Night};
 use compare::random::Random;
-use jangsebit::{copy_message, id_value, NotCopied};
+use jangsebit::{id_value, Message, Terms};
 use twin::fields;
-use twin::packet::{read_header, write_header, Header};
-use twin::{message, Refusal};
+use twin::message::{self, At};
+use twin::packet::{self, read_header, write_header, Header};
+use twin::Refusal;
 
 const CASES: u64 = 1_000_000;
 const SEED: u64 = 77;
@@ -94,29 +95,163 @@ fn numbered(refusal: jangsebit::Refusal) -> Refusal {
     Refusal(refusal.number())
 }
 
-/// What became of a message that was read and written back.
+/// What became of a message that was read, and written back.
 #[derive(Clone, Copy, Debug, PartialEq, Eq)]
 enum Back {
     NotRead(Refusal),
-    NotWritten(Refusal),
-    Written(usize),
+    Read(message::Message, Result<usize, Refusal>),
 }
 
 fn library_back(bytes: &[u8], buffer: &mut [u8], at: usize) -> Back {
-    match copy_message(bytes, buffer, at) {
-        Err(NotCopied::NotRead(refusal)) => Back::NotRead(numbered(refusal)),
-        Err(NotCopied::NotWritten(refusal)) => Back::NotWritten(numbered(refusal)),
-        Ok(count) => Back::Written(count),
+    match Message::read(bytes) {
+        Err(refusal) => Back::NotRead(numbered(refusal)),
+        Ok(message) => Back::Read(
+            as_twin(message),
+            message.write(buffer, at).map_err(numbered),
+        ),
     }
 }
 
 fn twin_back(bytes: &[u8], buffer: &mut [u8], at: usize) -> Back {
     match message::read(bytes) {
         Err(refusal) => Back::NotRead(refusal),
-        Ok(message) => match message.write(buffer, at) {
-            Err(refusal) => Back::NotWritten(refusal),
-            Ok(count) => Back::Written(count),
+        Ok(message) => Back::Read(message, message.write(buffer, at)),
+    }
+}
+
+/// The same fields as the twin names them.
+fn as_twin(message: Message) -> message::Message {
+    use message::Message as Twin;
+    match message {
+        Message::Security {
+            symbol,
+            updated,
+            action,
+            class,
+            security,
+            flags,
+            tier,
+            reporting,
+            status,
+        } => Twin::Security {
+            symbol,
+            updated,
+            action,
+            class,
+            security,
+            flags,
+            tier,
+            reporting,
+            status,
         },
+        Message::SpinStart { spin, time, last } => Twin::SpinStart {
+            kind: spin,
+            time,
+            last,
+        },
+        Message::SpinEnd {
+            spin,
+            count,
+            time,
+            last,
+        } => Twin::SpinEnd {
+            kind: spin,
+            count,
+            time,
+            last,
+        },
+        Message::TradingSession { time, session } => Twin::TradingSession {
+            time,
+            code: session,
+        },
+        Message::Add {
+            time,
+            id,
+            side,
+            quantity,
+            symbol,
+            price,
+            firm,
+            unsolicited,
+            flags,
+        } => Twin::Add {
+            time,
+            id,
+            side,
+            quantity,
+            symbol,
+            price,
+            firm,
+            unsolicited,
+            flags,
+        },
+        Message::Update {
+            time,
+            id,
+            quantity,
+            price,
+            flags,
+        } => Twin::Update {
+            time,
+            id,
+            quantity,
+            price,
+            flags,
+        },
+        Message::Delete { time, id } => Twin::Delete { time, id },
+        Message::Execution {
+            time,
+            id,
+            executed,
+            remaining,
+            execution,
+            terms,
+        } => Twin::Execution {
+            time,
+            id,
+            executed,
+            remaining,
+            execution,
+            at: match terms {
+                Terms::Published => At::Published,
+                Terms::Own(price) => At::Own(price),
+            },
+        },
+        Message::Top {
+            time,
+            symbol,
+            ask,
+            ask_volume,
+            bid,
+            bid_volume,
+            unsolicited,
+        } => Twin::Top {
+            time,
+            symbol,
+            ask,
+            asked: ask_volume,
+            bid,
+            bidden: bid_volume,
+            unsolicited,
+        },
+        Message::Trade {
+            time,
+            side,
+            quantity,
+            symbol,
+            price,
+            execution,
+            reserved,
+        } => Twin::Trade {
+            time,
+            side,
+            quantity,
+            symbol,
+            price,
+            execution,
+            reserved: reserved.to_be_bytes(),
+        },
+        Message::Other(kind) => Twin::Other(kind),
     }
 }
 
@@ -150,8 +285,8 @@ fn messages_read_and_written() {
         );
         match answer {
             Back::NotRead(_) => counts[0] += 1,
-            Back::NotWritten(_) => counts[1] += 1,
-            Back::Written(_) => counts[2] += 1,
+            Back::Read(_, Err(_)) => counts[1] += 1,
+            Back::Read(_, Ok(_)) => counts[2] += 1,
         }
     }
     println!("not read, not written, written: {counts:?}");
@@ -177,6 +312,128 @@ fn damage(bytes: &mut Vec<u8>, random: &mut Random) {
             let length = random.pick(&[127, 128, 129, 200]);
             bytes.resize(length, 1);
             bytes[..2].copy_from_slice(&(length as u16).to_be_bytes());
+        }
+        _ => {}
+    }
+}
+
+/// A message with fields of any kind, most of which break a rule: what is refused in writing.
+#[test]
+fn messages_written() {
+    let mut random = Random::new(seed());
+    let mut counts = [0u64; 2];
+    for case in 0..CASES {
+        let (time, price) = (
+            random.number() as u32,
+            random.pick(&[0, 1, 1 << 62, 1 << 63]),
+        );
+        let quantity = random.pick(&[0, 1, 7]);
+        let id = *random.pick(&[b"0123456789ABCD", b"0123456789a000"]);
+        let message = if random.chance(500) {
+            Message::Update {
+                time,
+                id,
+                quantity,
+                price,
+                flags: random.number() as u16,
+            }
+        } else {
+            Message::Execution {
+                time,
+                id,
+                executed: quantity,
+                remaining: random.number() as u32,
+                execution: random.number(),
+                terms: random.pick(&[Terms::Published, Terms::Own(price)]),
+            }
+        };
+        let (mut proved, mut twin) = ([0xaa; 50], [0xaa; 50]);
+        let at = random.below(20) as usize;
+        let answer = message.write(&mut proved, at).map_err(numbered);
+        let expected = as_twin(message).write(&mut twin, at);
+        assert_eq!(
+            (answer, proved),
+            (expected, twin),
+            "seed {}, case {case}: {message:?} at {at}",
+            seed()
+        );
+        counts[answer.is_ok() as usize] += 1;
+    }
+    assert!(counts.iter().all(|count| *count > 10_000));
+}
+
+/// A packet of messages, then damaged: which refusal, the byte it rests on, and where each message lies.
+#[test]
+fn packets_judged_and_walked() {
+    let mut random = Random::new(seed());
+    let mut night = Night::new(Manners::any(&mut random), &mut random);
+    let mut message = Vec::new();
+    let mut counts = [0u64; 9];
+    for case in 0..CASES / 4 {
+        let messages = random.pick(&[0, 0, 1, 1, 2, 3, 7, 20]);
+        let heartbeat = messages == 0 && random.chance(700);
+        let number = random.pick(&[1, 1_000, u32::MAX - 8, u32::MAX]);
+        let mut packet = vec![0; 12];
+        for _ in 0..messages {
+            night.message(&mut random, &mut message);
+            packet.extend_from_slice(&message);
+        }
+        let size = packet.len() as u16;
+        packet[..2].copy_from_slice(&size.to_be_bytes());
+        packet[2..6].copy_from_slice(&number.to_be_bytes());
+        packet[6] = heartbeat as u8;
+        packet[7] = messages as u8;
+        damage_packet(&mut packet, &mut random);
+        let library = jangsebit::judge(&packet).map_err(at_byte);
+        let expected = packet::judge(&packet);
+        let walked = jangsebit::walk(&packet).map(|walk| walk.collect::<Vec<_>>());
+        let places = packet::walk(&packet);
+        let parts = places
+            .as_ref()
+            .map(|places| places.iter().map(|(at, size)| &packet[*at..at + size]))
+            .map(|parts| parts.collect::<Vec<_>>());
+        assert_eq!(
+            (library, walked.map_err(at_byte)),
+            (expected, parts.map_err(|refused| *refused)),
+            "seed {}, case {case}: {packet:02x?}",
+            seed()
+        );
+        counts[expected.err().map_or(0, |(refusal, _)| refusal.0 as usize)] += 1;
+    }
+    println!("accepted, refused by 1 to 8: {counts:?}");
+    assert!(counts.iter().all(|count| *count > 100));
+}
+
+fn at_byte(refused: jangsebit::Refused) -> packet::Refused {
+    (numbered(refused.refusal), refused.offset)
+}
+
+fn damage_packet(packet: &mut Vec<u8>, random: &mut Random) {
+    let stated = |packet: &mut Vec<u8>| {
+        let size = packet.len() as u16;
+        if size >= 2 {
+            packet[..2].copy_from_slice(&size.to_be_bytes());
+        }
+    };
+    match random.below(12) {
+        0 => packet.truncate(random.below(packet.len() as u64 + 1) as usize),
+        1 => {
+            packet.truncate(random.between(2, packet.len() as u64) as usize);
+            stated(packet);
+        }
+        2 => {
+            packet.resize(random.between(1_400, 1_500) as usize, 0);
+            stated(packet);
+        }
+        3 => packet[random.below(12) as usize] ^= 1 << random.below(8),
+        4 => packet[7] = packet[7].wrapping_add(random.pick(&[1, 255])),
+        5 => {
+            let at = random.below(packet.len() as u64) as usize;
+            packet[at] = random.byte();
+        }
+        6 => {
+            packet.push(random.byte());
+            stated(packet);
         }
         _ => {}
     }

@@ -24,6 +24,7 @@
 #![deny(unsafe_code)]
 
 mod answers;
+mod message;
 mod refusal;
 mod session;
 mod sys;
@@ -31,7 +32,8 @@ mod tables;
 mod wire;
 
 pub use answers::{Answer, Applied, Burst, Question, Quote};
+pub use message::{Message, Terms};
 pub use refusal::{Fault, Refusal, UnknownNumber};
 pub use session::{Faults, Gap, Gaps, Numbers, Session};
 pub use tables::{symbol, Inside, Level, Order, Side};
-pub use wire::{copy_message, id_value, Header, NotCopied};
+pub use wire::{id_value, judge, walk, Header, Messages, Refused};

@@ -63,9 +63,10 @@ impl Session {
     ///
     /// # Panics
     ///
-    /// Where the archive that was linked has other exports than this crate.
+    /// Where the archive that was linked has other exports or sizes than this crate.
     pub fn open(number: u32) -> Session {
         assert_eq!(sys::version(), VERSION, "the version of the library");
+        assert_eq!(sys::sizes(), sys::SIZES, "the sizes of the library");
         Session {
             memory: Memory::opened(number),
         }

@@ -42,6 +42,25 @@ const _: () = {
     assert!(size_of::<Question>() == 15 && align_of::<Question>() == 1);
 };
 
+/// What the library answers where it was built for the memory and the limits of this crate.
+pub const SIZES: [u64; 12] = {
+    use crate::{Header, Message, Session};
+    [
+        size_of::<Orders>() as u64,
+        align_of::<Orders>() as u64,
+        size_of::<Room>() as u64,
+        align_of::<Room>() as u64,
+        size_of::<Window>() as u64,
+        align_of::<Window>() as u64,
+        ORDERS as u64,
+        Session::INSIDES as u64,
+        Session::WINDOW,
+        Header::SIZE as u64,
+        Session::LONGEST as u64,
+        Message::LONGEST as u64,
+    ]
+};
+
 extern "C" {
     fn jangsebit_version() -> u32;
     fn jangsebit_open(session: *mut Orders, room: *mut Room, window: *mut Window, number: u32);
@@ -89,9 +108,10 @@ extern "C" {
     ) -> u64;
     fn jangsebit_gap(room: *const Room, window: *const Window, from: u64, told: *mut [u64; 2]);
 
-    fn replay_value(text: *const u8, text_len: usize, value: *mut u64) -> u8;
-    fn replay_header(packet: *const u8, packet_len: usize, numbers: *mut [u64; 5]) -> u8;
-    fn replay_write_header(
+    fn jangsebit_sizes(told: *mut [u64; 12]);
+    fn jangsebit_value(id: *const [u8; 14], told: *mut [u64; 1]) -> u64;
+    fn jangsebit_header(packet: *const u8, packet_len: usize, told: *mut [u64; 5]) -> u64;
+    fn jangsebit_write_header(
         size: u16,
         seq: u32,
         flag: u8,
@@ -99,15 +119,23 @@ extern "C" {
         milli: u32,
         buf: *mut u8,
         buf_len: usize,
-    ) -> u8;
-    fn replay_message(
-        bytes: *const u8,
-        bytes_len: usize,
+    ) -> u64;
+    fn jangsebit_judge(packet: *const u8, packet_len: usize, told: *mut [u64; 1]) -> u64;
+    fn jangsebit_walk(
+        packet: *const u8,
+        packet_len: usize,
+        places: *mut u64,
+        places_len: usize,
+        told: *mut [u64; 2],
+    ) -> u64;
+    fn jangsebit_message(bytes: *const u8, bytes_len: usize, told: *mut [u64; 14]) -> u64;
+    fn jangsebit_write_message(
+        numbers: *const [u64; 14],
         buf: *mut u8,
         buf_len: usize,
         at: usize,
-        refusals: *mut [u8; 2],
-    ) -> usize;
+        told: *mut [u64; 1],
+    ) -> u64;
 }
 
 // SAFETY, for every call below: an address and a length are those of one live slice or array, lent for the length of
@@ -271,22 +299,31 @@ impl Memory {
     }
 }
 
+/// Bytes and alignment of the orders, the room and the window; live orders, insides, numbers; a packet's bytes at least
+/// and at most, a message's at most.
+pub fn sizes() -> [u64; 12] {
+    let mut told = [0; 12];
+    // SAFETY: as above.
+    unsafe { jangsebit_sizes(&mut told) }
+    told
+}
+
 /// The refusal, and the value of an order id.
 #[inline]
 pub fn value(id: &[u8; 14]) -> (u64, u64) {
-    let mut value = 0;
+    let mut told = [0; 1];
     // SAFETY: as above.
-    let refusal = unsafe { replay_value(id.as_ptr(), id.len(), &mut value) };
-    (refusal as u64, value)
+    let refusal = unsafe { jangsebit_value(id, &mut told) };
+    (refusal, told[0])
 }
 
 /// The refusal, and a header's size, number, flag, count of messages and milliseconds.
 #[inline]
 pub fn header(packet: &[u8]) -> (u64, [u64; 5]) {
-    let mut numbers = [0; 5];
+    let mut told = [0; 5];
     // SAFETY: as above.
-    let refusal = unsafe { replay_header(packet.as_ptr(), packet.len(), &mut numbers) };
-    (refusal as u64, numbers)
+    let refusal = unsafe { jangsebit_header(packet.as_ptr(), packet.len(), &mut told) };
+    (refusal, told)
 }
 
 /// The refusal; a header into a buffer's first 12 bytes.
@@ -300,8 +337,8 @@ pub fn write_header(
     buffer: &mut [u8],
 ) -> u64 {
     // SAFETY: as above.
-    let refusal = unsafe {
-        replay_write_header(
+    unsafe {
+        jangsebit_write_header(
             size,
             number,
             flag,
@@ -310,24 +347,60 @@ pub fn write_header(
             buffer.as_mut_ptr(),
             buffer.len(),
         )
-    };
-    refusal as u64
+    }
 }
 
-/// A message read, and written at a place: the refusals of the two, and how many bytes it took.
+/// The refusal, 1 to 8, and the offset that it rests on.
 #[inline]
-pub fn message(bytes: &[u8], buffer: &mut [u8], at: usize) -> ([u8; 2], usize) {
-    let mut refusals = [0; 2];
+pub fn judge(packet: &[u8]) -> (u64, u64) {
+    let mut told = [0; 1];
     // SAFETY: as above.
-    let count = unsafe {
-        replay_message(
-            bytes.as_ptr(),
-            bytes.len(),
-            buffer.as_mut_ptr(),
-            buffer.len(),
-            at,
-            &mut refusals,
+    let refusal = unsafe { jangsebit_judge(packet.as_ptr(), packet.len(), &mut told) };
+    (refusal, told[0])
+}
+
+/// The refusal, the offset that it rests on, and how many messages there are; where each starts and its bytes, into
+/// the list.
+#[inline]
+pub fn walk(packet: &[u8], places: &mut [u64]) -> (u64, [u64; 2]) {
+    let mut told = [0; 2];
+    // SAFETY: as above.
+    let refusal = unsafe {
+        jangsebit_walk(
+            packet.as_ptr(),
+            packet.len(),
+            places.as_mut_ptr(),
+            places.len(),
+            &mut told,
         )
     };
-    (refusals, count)
+    (refusal, told)
+}
+
+/// The refusal, and a message's type and fields.
+#[inline]
+pub fn message(bytes: &[u8]) -> (u64, [u64; 14]) {
+    let mut told = [0; 14];
+    // SAFETY: as above.
+    let refusal = unsafe { jangsebit_message(bytes.as_ptr(), bytes.len(), &mut told) };
+    (refusal, told)
+}
+
+/// The refusal, and how many bytes the message of such numbers took at a place.
+#[inline]
+pub fn write_message(numbers: &[u64; 14], buffer: &mut [u8], at: usize) -> (u64, u64) {
+    let mut told = [0; 1];
+    // SAFETY: as above.
+    let refusal = unsafe {
+        jangsebit_write_message(numbers, buffer.as_mut_ptr(), buffer.len(), at, &mut told)
+    };
+    (refusal, told[0])
+}
+
+#[cfg(test)]
+mod tests {
+    #[test]
+    fn the_library_has_these_sizes() {
+        assert_eq!(super::sizes(), super::SIZES);
+    }
 }

@@ -1,4 +1,4 @@
-//! Headers, messages and ids, without a session.
+//! Headers, packets and ids, without a session.
 
 use crate::refusal::{refused, Refusal};
 use crate::sys;
@@ -77,39 +77,99 @@ impl Header {
     }
 }
 
-/// Why a message was not copied.
+/// Why a packet is refused, and the byte that the refusal rests on.
 #[derive(Clone, Copy, Debug, PartialEq, Eq)]
-pub enum NotCopied {
-    /// The bytes are no message, or a field breaks its rule.
-    NotRead(Refusal),
-    /// The message is of a type that is not written, or does not fit.
-    NotWritten(Refusal),
+pub struct Refused {
+    /// The first test that applies.
+    pub refusal: Refusal,
+    /// The offset in the packet that it rests on.
+    pub offset: usize,
 }
 
-/// Reads the message that `bytes` are and writes it at a place of a buffer, its exact size: bytes behind its fields
-/// are left out. The answer is how many bytes that took; other bytes of the buffer stay.
+fn refused_at(refusal: u64, offset: u64) -> Result<(), Refused> {
+    refused(refusal).map_err(|refusal| Refused {
+        refusal,
+        offset: offset as usize,
+    })
+}
+
+/// Judges a packet by all that needs no session.
 ///
 /// # Errors
 ///
-/// In reading 7 and 14, in writing 14 (Imbalance and unlisted types are not written) and 11; nothing is then written.
+/// Refusals 1 to 8, the first that applies.
 ///
 /// ```
-/// use jangsebit::{copy_message, NotCopied, Refusal};
+/// use jangsebit::{judge, Refusal};
 ///
-/// // A Trading Session with one byte behind its fields.
-/// let message = [0, 13, 20, 0, 0, 0, 0, 0, 0, 0, 1, 5, 0xee];
-/// let mut buffer = [0; 12];
-/// assert_eq!(copy_message(&message, &mut buffer, 0), Ok(12));
-/// assert_eq!(buffer, [0, 12, 20, 0, 0, 0, 0, 0, 0, 0, 1, 5]);
-/// let refused = copy_message(&message, &mut buffer, 1);
-/// assert_eq!(refused, Err(NotCopied::NotWritten(Refusal::BufferTooShort)));
+/// let reserved = [0, 12, 0, 0, 0, 7, 3, 0, 0, 0, 0, 9];
+/// let refused = judge(&reserved).unwrap_err();
+/// assert_eq!((refused.refusal, refused.offset), (Refusal::ReservedFlag, 6));
 /// ```
-pub fn copy_message(bytes: &[u8], buffer: &mut [u8], at: usize) -> Result<usize, NotCopied> {
-    let ([read, written], count) = sys::message(bytes, buffer, at);
-    refused(read as u64).map_err(NotCopied::NotRead)?;
-    refused(written as u64).map_err(NotCopied::NotWritten)?;
-    Ok(count)
+pub fn judge(packet: &[u8]) -> Result<(), Refused> {
+    let (refusal, offset) = sys::judge(packet);
+    refused_at(refusal, offset)
 }
+
+/// The most messages that a header can count.
+const MOST: usize = 255;
+
+/// The messages of a packet, each a part of it.
+#[derive(Clone)]
+pub struct Messages<'a> {
+    packet: &'a [u8],
+    places: [u64; 2 * MOST],
+    at: usize,
+    count: usize,
+}
+
+/// Walks a packet without a session: its messages one after the other, each a part of the packet.
+///
+/// # Errors
+///
+/// Refusals 1 to 7, the first that applies.
+///
+/// ```
+/// use jangsebit::{walk, Refusal};
+///
+/// let packet = [0, 19, 0, 0, 0, 1, 0, 2, 0, 0, 0, 0, 0, 3, 28, 0, 4, 28, 9];
+/// let messages: Vec<&[u8]> = walk(&packet)?.collect();
+/// assert_eq!(messages, [&packet[12..15], &packet[15..19]]);
+/// let cut = walk(&packet[..18]).map(|_| ()).unwrap_err();
+/// assert_eq!((cut.refusal, cut.offset), (Refusal::SizeDiffers, 0));
+/// # Ok::<(), jangsebit::Refused>(())
+/// ```
+pub fn walk(packet: &[u8]) -> Result<Messages<'_>, Refused> {
+    let mut places = [0; 2 * MOST];
+    let (refusal, [offset, count]) = sys::walk(packet, &mut places);
+    refused_at(refusal, offset)?;
+    Ok(Messages {
+        packet,
+        places,
+        at: 0,
+        count: count as usize,
+    })
+}
+
+impl<'a> Iterator for Messages<'a> {
+    type Item = &'a [u8];
+
+    fn next(&mut self) -> Option<&'a [u8]> {
+        if self.at == self.count {
+            return None;
+        }
+        let (start, size) = (self.places[2 * self.at], self.places[2 * self.at + 1]);
+        self.at += 1;
+        Some(&self.packet[start as usize..][..size as usize])
+    }
+
+    fn size_hint(&self) -> (usize, Option<usize>) {
+        let left = self.count - self.at;
+        (left, Some(left))
+    }
+}
+
+impl ExactSizeIterator for Messages<'_> {}
 
 /// The value of an order id: its first 12 characters in base 36.
 ///

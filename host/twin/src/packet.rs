@@ -99,6 +99,50 @@ pub fn messages_good(packet: &[u8], messages: u8) -> Result<(), Refusal> {
     }
 }
 
+/// A refusal, and the byte of the packet that it rests on.
+pub type Refused = (Refusal, usize);
+
+/// Tests 1 to 7, and where each message starts with how many bytes it has.
+pub fn walk(packet: &[u8]) -> Result<Vec<(usize, usize)>, Refused> {
+    let header = read_header(packet).map_err(|refusal| {
+        let at = match refusal.0 {
+            4 => 6,
+            5 if packet.len() != HEADER => 0,
+            5 | 6 => 7,
+            _ => 0,
+        };
+        (refusal, at)
+    })?;
+    let (mut places, mut at) = (Vec::new(), HEADER);
+    for _ in 0..header.messages {
+        let size = match packet.get(at..at + HEAD) {
+            Some(head) => be16(head, 0) as usize,
+            None => return Err((Refusal(7), at)),
+        };
+        let least = LEAST[packet[at + 2] as usize] as usize;
+        if size < least || size > LONGEST || at + size > packet.len() {
+            return Err((Refusal(7), at));
+        }
+        places.push((at, size));
+        at += size;
+    }
+    if at == packet.len() {
+        Ok(places)
+    } else {
+        Err((Refusal(7), at))
+    }
+}
+
+/// Tests 1 to 8.
+pub fn judge(packet: &[u8]) -> Result<(), Refused> {
+    let messages = walk(packet)?.len() as u64;
+    let first = be32(packet, 2) as u64;
+    if messages > 0 && first + messages - 1 > u32::MAX as u64 {
+        return Err((Refusal(8), 2));
+    }
+    Ok(())
+}
+
 /// The messages of a packet that passed test 7, one after the other.
 pub struct Messages<'a> {
     left: &'a [u8],

@@ -2,7 +2,8 @@
 -- Assumes nothing.
 use mathlib.Core.Path.{ap}
 use Rattle.window.specs.declared.missing.Gap.{Gap}
-use Rattle.exports.specs.Told.{gapNumbers, over}
+use Rattle.single.specs.Over.{over}
+use Rattle.exports.specs.Told.{gapNumbers}
 use borrow.Author.Needs.{needs}
 use Rattle.exports.proofs.asking.jangsebit_gap.Statement.{statement}
 use Rattle.exports.proofs.asking.jangsebit_gap.Tie as tie

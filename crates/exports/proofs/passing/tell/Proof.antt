@@ -4,7 +4,7 @@ mod Points
 use mathlib.Core.Path.{ap, sym}
 use Rattle.session.specs.declared.passing.Passed.{Passed}
 use Rattle.exports.specs.Passed.{passNumbers}
-use Rattle.exports.specs.Told.{over}
+use Rattle.single.specs.Over.{over}
 use borrow.Author.Needs.{needs}
 use Rattle.exports.proofs.passing.tell.Proof.Points as to
 use Rattle.exports.proofs.passing.tell.Statement.{statement}

@@ -1,3 +1,0 @@
--- Laws of `replay`'s definitions.
-pub mod Told
-pub mod Tables
