@@ -4,7 +4,7 @@
 use mathlib.Core.Path.{_≡_, refl, ap, ap₂, _∙_, sym, subst}
 use mathlib.Core.Bool.{Bool, true, false, cond}
 use mathlib.Core.List.{List}
-use Prim.Native.Nat.{ℕ, _-_, _≤_, _<_}
+use Prim.Native.Nat.{ℕ, _+_, _-_, _*_, _≤_, _<_}
 use native.Mathlib.Omega.{arith}
 use lib.ListN.{length, getD, set}
 use lib.Seq.{set-getD}
@@ -22,9 +22,11 @@ use Rattle.book_room.specs.declared.adding.Put.the-variants as put
 use Rattle.book_room.specs.declared.changing.Act.{Act}
 use Rattle.book_room.specs.declared.changing.Act.the-variants as act
 use Rattle.book_room.specs.declared.changing.Name.{Name}
+use Rattle.session_message.specs.declared.Source.{Source}
+use Rattle.window_taking.specs.declared.burst.Turn.{Turn}
 use Rattle.session.specs.Meaning.{Held, Ruled, endIn, nextIn}
 use Rattle.session.specs.Bursts.{Runs}
-use Rattle.session.specs.Engine.{AtHand, Came, Going, Names, Over, Puts, Settled, Task, Touched, Waits, beginOf, betweenOf, bytesOf, stepsLeft, taskOf}
+use Rattle.session.specs.Engine.{AtHand, Came, Going, Names, Over, Puts, Settled, Task, Touched, Waits, atHandOf, beginOf, betweenOf, bytesOf, stepsLeft, taskOf}
 use Rattle.session.specs.declared.advancing.Point.{Point}
 use Rattle.session.specs.declared.settling.Outcome.{Outcome}
 use Rattle.session.specs.declared.touching.Touch.{Touch}
@@ -101,29 +103,18 @@ pub record Onward (s : List ℕ) (single : Bool) (room₀ window₀ answers₀ t
   pub few : stepsLeft to ≤ stepsLeft from
 
 module _ {t : Task} {s : List ℕ} {single : Bool} {os : List Order} {room window answers text : List ℕ} {before : Point} where
-  pub came-over : {r point : Point} → r ≡ point → point .touches ≡ false → Over t s single os room window answers point → length answers ≡ t .space
-      → Came t s single os room window answers text before r
-  came-over {r} {point} e none over long =
+  pub came-over : {r : Point} {next : ℕ} {turn : Turn} {source : Source} → r ≡ betweenOf next turn source
+      → Over t s single os room window answers (betweenOf next turn source) → length answers ≡ t .space → Came t s single os room window answers text before r
+  came-over e over long =
       subst (Came t s single os room window answers text before) (sym e)
-      (record {
-        waits = λ some-order. never (sym some-order ∙ none);
-        place = λ some-order. never (sym some-order ∙ none);
-        fewer = λ some-order. never (sym some-order ∙ none);
-        over = λ no-order. over;
-        long = long;
-      })
+      (record { waits = λ h. never (sym h); place = λ h. never (sym h); fewer = λ h. never (sym h); over = λ _. over; long = long })
 
-  pub came-waits : {r point : Point} → r ≡ point → point .touches ≡ true → Waits t s single os room window answers text point → stepsLeft point < stepsLeft before
+  pub came-waits : {r : Point} (touched : Touch) {here : Source} {size next : ℕ} {turn : Turn} {source : Source} → r ≡ atHandOf touched here size next turn source
+      → Waits t s single os room window answers text (atHandOf touched here size next turn source) → turn .left * 257 + (turn .before + 256 - next) < stepsLeft before
       → length answers ≡ t .space → Came t s single os room window answers text before r
-  came-waits e some-order waits fewer long =
+  came-waits touched e waits fewer long =
       subst (Came t s single os room window answers text before) (sym e)
-      (record {
-        waits = λ _. waits;
-        place = λ _. waits .within;
-        fewer = λ _. fewer;
-        over = λ no-order. never (sym some-order ∙ no-order);
-        long = long;
-      })
+      (record { waits = λ _. waits; place = λ _. waits .within; fewer = λ _. fewer; over = λ h. never h; long = long })
 
 -- ---- a message at hand
 

@@ -437,12 +437,15 @@ module _ {task : Task} {s : List ℕ} {single : Bool} {answers : List ℕ} {os :
       number-below : next < 4294967296
       number-below = omega (arith, o .at, waits-below (o .good) (o .state .next) waits)
 
-      pub houses : Houses numbers (task .next) (task .end) tabled next m
+      houses : Houses numbers (task .next) (task .end) tabled next m
       houses =
           record {
             ready = subst (λ (n : ℕ). Ready tabled n m) (sym (o .at)) (ready (o .good) waits);
             is = o .housed;
           }
+
+      pub houses-read : {bytes : List ℕ} → bytes ≡ m → Houses numbers (task .next) (task .end) tabled next bytes
+      houses-read is = subst (Houses numbers (task .next) (task .end) tabled next) (sym is) houses
 
       early : next < turn .before + 256
       early =

@@ -1,7 +1,7 @@
 -- The engine until a message touches an order: each turn of the loop is one step of the definition.
 -- Assumes nothing.
 mod Points
-use mathlib.Core.Path.{refl, ap, _∙_, sym, subst}
+use mathlib.Core.Path.{ap, _∙_, sym}
 use mathlib.Core.List.{List}
 use Prim.Native.Nat.{_+_, _-_, _*_, _≤_, _<_}
 use native.Mathlib.Nat.{mod-lt}
@@ -13,7 +13,7 @@ use Rattle.book_room.specs.Room.{Houses}
 use Rattle.window_taking.specs.declared.burst.Turn.{Turn}
 use Rattle.session.specs.Engine.{Going, Task, Touched, betweenOf, stepsLeft}
 use Rattle.session.proofs.Engine.{Onward, came-over, came-waits, from-between}
-use Rattle.session.proofs.Runs.{Here, begins, bytes-of, closes, ends, follows, goes, here, holds, houses, known, less-turn, more, passes-so, same-length, tabled, waits-so}
+use Rattle.session.proofs.Runs.{Here, begins, bytes-of, closes, ends, follows, goes, here, holds, houses-read, known, less-turn, more, passes-so, same-length, tabled, waits-so}
 use borrow.Author.Needs.{needs}
 use Rattle.session.proofs.advancing.advance.Proof.Points as to
 use Rattle.session.proofs.advancing.advance.Statement.{statement}
@@ -65,7 +65,7 @@ returns c t os g =
     let told = to.size-from-between c .size .ensures in
     let free = to.then1-from-between c .if1 .taken in
     let put = to.close-from-between c .close .ensures in
-    came-over (c .between .ensures) refl (ends (is .now) told free put (sym (to.done-from-between c .done .ensures) ∙ to.then2-from-between c .if2 .taken)) (same-length (is .now) told free put ∙ is .long)
+    came-over (c .between .ensures) (ends (is .now) told free put (sym (to.done-from-between c .done .ensures) ∙ to.then2-from-between c .if2 .taken)) (same-length (is .now) told free put ∙ is .long)
 
 follow-requires : tie.Need-follow-requires Inv-loop μ-loop
 follow-requires c κs =
@@ -110,10 +110,9 @@ onward-requires c κs =
 -- the room holds the tables before it
 housed : (c : tie.After-message Inv-loop μ-loop) {t : Task} {os : List Order} (g : From (to.loop-from-message c) t os)
     → Houses (to.loop-from-message c .loop .room) (t .next) (t .end) (tabled (is-at (to.loop-from-message c) g .now)) (to.loop-from-message c .loop .next) (c .message .result .now)
-housed c {t} g =
+housed c g =
     let is = is-at (to.loop-from-message c) g in
-    subst (Houses (to.loop-from-message c .loop .room) (t .next) (t .end) (tabled (is-at (to.loop-from-message c) g .now)) (to.loop-from-message c .loop .next)) (sym (c .message .ensures))
-    (houses (is .now) (to.size-from-message c .size .ensures) (to.else1-from-message c .if1 .left) (to.loop-from-message c .loop .text) (is .wide) (to.fetch-from-message c .fetch .ensures))
+    houses-read (is .now) (to.size-from-message c .size .ensures) (to.else1-from-message c .if1 .left) (to.loop-from-message c .loop .text) (is .wide) (to.fetch-from-message c .fetch .ensures) (c .message .ensures)
 
 apply-requires : tie.Need-apply-requires Inv-loop μ-loop
 apply-requires c κs =
@@ -134,7 +133,7 @@ same-size-2 c = one (to.loop-from-at-hand c) .long ∙ sym (to.entry-from-at-han
 returns-2 : tie.Need-returns-2 Inv-loop μ-loop
 returns-2 c t os g =
     let is = is-at (to.loop-from-at-hand c) (from-between g) in
-    came-waits (c .at-hand .ensures) refl
+    came-waits (to.apply-from-at-hand c .apply .result) (c .at-hand .ensures)
     (waits-so (is .now) (to.size-from-at-hand c .size .ensures) (to.else1-from-at-hand c .if1 .left) (to.loop-from-at-hand c .loop .text) (is .wide) (to.fetch-from-at-hand c .fetch .ensures) (to.message-from-at-hand c .message .ensures) (touched (to.apply-from-at-hand c) (from-between g)) (to.free-from-at-hand c .free .ensures) (to.onward-from-at-hand c .onward .ensures) (is .long) (to.then3-from-at-hand c .if3 .taken))
     (omega (arith, fewer (to.apply-from-at-hand c), to.loop-from-at-hand c .loop .inv .few))
     (is .long)
