@@ -49,6 +49,9 @@ module _ {b : Book} (s : List ℕ) (kept : Kept b) where
       (seenOf (view b) (messageIn s))
   whole-seen = seen-is b s kept refl refl refl refl refl
 
+  order-seen : seenOf (view b) (messageIn s) .order ≡ namedIn b s .order
+  order-seen = ap (λ (z : Seen). z .order) (sym whole-seen)
+
   pub decided-add : {key live : ℕ} {order : Found} {e : Effect} → typeIn s ≡ 21 → Whole s → key ≡ numberOf (part s 7 14)
       → order ≡ keyAt key (take (b .live) (b .keys)) → live ≡ b .live
       → ((seen : Seen) → seen .order ≡ order → seen .live ≡ live → e ≡ effectOf seen (fieldsOf 21 s))
@@ -198,3 +201,11 @@ module _ {b : Book} {s : List ℕ} {key : ℕ} {topic : List ℕ} {e : Effect} (
       go (Record code) is h = absurd (miss (0 ∷ 1 ∷ 2 ∷ 6 ∷ []) 5 tt h)
       go Unchanged is h = unchanged-done d number is
       go (Fault reason) is h = absurd (miss (0 ∷ 1 ∷ 2 ∷ 6 ∷ []) 7 tt h)
+
+-- the order that is replaced or leaves is the one that the message names
+module _ {b : Book} {s : List ℕ} {key : ℕ} {topic : List ℕ} {e : Effect} (d : Decided b s key topic e) where
+  pub replace-at : {place shares price : ℕ} → e ≡ Replace place shares price → place ≡ placeFound (namedIn b s .order)
+  replace-at h = tells (seenOf (view b) (messageIn s)) (messageIn s) (sym (d .effect) ∙ h) .1 .0 .place ∙ ap placeFound (order-seen s (d .kept))
+
+  pub remove-at : {place : ℕ} → e ≡ Remove place → place ≡ placeFound (namedIn b s .order)
+  remove-at h = tells (seenOf (view b) (messageIn s)) (messageIn s) (sym (d .effect) ∙ h) .1 .place ∙ ap placeFound (order-seen s (d .kept))

@@ -15,6 +15,7 @@ use Rattle.book.specs.declared.deciding.Effect.the-variants as effect
 use Rattle.book.specs.declared.tables.Inside.{Inside}
 use Rattle.book.proofs.Carrying.{restored-is}
 use Rattle.book.proofs.Steps.{Decided, enter-done, fault-done, put-done, put-naming, record-done, remove-done, remove-within, renew-done, replace-done, replace-within}
+use Rattle.book_room.proofs.Decides.{remove-at, replace-at}
 use Rattle.book_room.specs.Arms.{Added, Changed, Told, after}
 use Rattle.book_room.specs.Room.{Counts, Gone, Houses, Lies, roomOf}
 use Rattle.book_room.specs.declared.adding.Put.the-variants as put
@@ -84,7 +85,7 @@ module _ (next end number : ℕ) {b : Book} {s : List ℕ} {key : ℕ} {topic : 
       record {
         is = still ∙ ap (roomOf next end) done;
         orders = sym (ap (λ (x : Book). x .orders) done) ∙ restored-is (b .orders) place shares price (omega (arith, d .kept .orders));
-        replaces = λ p q r same. let e : p ≡ place = cc in rw e few;
+        replaces = λ p q r same. let e : p ≡ place = cc in e ∙ replace-at d is;
         removes = λ p last same. never (cc);
       }
 
@@ -93,13 +94,12 @@ module _ (next end number : ℕ) {b : Book} {s : List ℕ} {key : ℕ} {topic : 
       let done = remove-done d number is refl in
       let within = remove-within d is in
       let at : last ≡ b .live - 1 = gone .last in
-      let few : place < 256 = omega (arith, d .kept .live) in
       let less : last < 256 = omega (arith, d .kept .live) in
       record {
         is = gone .is ∙ ap (roomOf next end) done;
         orders = sym (ap (λ (x : Book). x .orders) done) ∙ ap (λ (n : ℕ). set (set (b .orders) place (getD (b .orders) n blank)) n noOrder) (sym at);
         replaces = λ p q r same. never (cc);
-        removes = λ p l same. let e : p ≡ place = cc in let f : l ≡ last = cc in (rw e few, rw f less);
+        removes = λ p l same. let e : p ≡ place = cc in let f : l ≡ last = cc in (e ∙ remove-at d is, rw f less);
       }
 
   pub told-renew : {place : ℕ} {x : Inside} → e ≡ effect.Renew place → x ≡ insideOf (fieldsOf 26 s)

@@ -55,8 +55,8 @@ ordersChanged change.Nothing os = os
 pub record Changed (room : List ℕ) (next end : ℕ) (b : Book) (number : ℕ) (s : List ℕ) (r : Act) : Type 0 where
   pub is : room ≡ roomOf next end (after b number s)
   pub orders : after b number s .orders ≡ ordersChanged r (b .orders)
-  pub replaces : (place shares price : ℕ) → r ≡ change.Replace place shares price → place < 256
-  pub removes : (place last : ℕ) → r ≡ change.Remove place last → (place < 256) × (last < 256)
+  pub replaces : (place shares price : ℕ) → r ≡ change.Replace place shares price → place ≡ placeFound (namedIn b s .order)
+  pub removes : (place last : ℕ) → r ≡ change.Remove place last → (place ≡ placeFound (namedIn b s .order)) × (last < 256)
 
 -- ---- any other
 

@@ -2,6 +2,7 @@
 pub mod States
 pub mod Dispatch
 pub mod Runs
+pub mod Engine
 pub mod Cleared
 pub mod Calls
 pub mod Answers

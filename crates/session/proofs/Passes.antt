@@ -33,7 +33,7 @@ use Rattle.session.specs.declared.passing.Passed.{Passed}
 use Rattle.session.specs.declared.passing.Passed.the-variants as passed
 use Rattle.session.proofs.Calls.{rule-of}
 use Rattle.session.proofs.Runs.{held-by, kept-next, state-end, state-held, state-known, state-refusal, take-kept}
-use Rattle.session.proofs.States.{Good, meaning, neat, ruled-more, stands}
+use Rattle.session.proofs.States.{meaning, neat, ruled-more, stands}
 
 -- ---- the header's numbers
 

@@ -33,7 +33,8 @@ use Rattle.session.specs.declared.packets.Answer.{Answer}
 use Rattle.session.proofs.Calls.{both, few, packet-small}
 use Rattle.session.proofs.Given.{Given, Took, took-answer, took-is}
 use Rattle.session.proofs.Demand3.{means}
-use Rattle.session.proofs.States.{Good, good-one, meaning, ruled-rule, stands, take-more, view-rep}
+use Rattle.session.specs.Engine.{Good}
+use Rattle.session.proofs.States.{good-one, meaning, ruled-rule, stands, take-more, view-rep}
 
 -- ---- what an answer tells
 

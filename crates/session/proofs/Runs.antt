@@ -25,15 +25,18 @@ use Rattle.packet.specs.Header.{decided}
 use Rattle.window.specs.Window.{sizeAt, startOf, waitsAt, zeros}
 use Rattle.window.proofs.Held.{clear-window, with, with-other, with-same}
 use Rattle.wire.proofs.Parts.{part-front, part-long}
+use Rattle.message.specs.Layouts.{typeIn}
+use Rattle.message.specs.Row.{fieldsOf}
 use Rattle.message.specs.Whole.{Whole}
-use Rattle.book.specs.Applying.{applyOf}
+use Rattle.book.specs.Applying.{applyOf, orderOf}
 use Rattle.book.specs.Rule.{Ready}
 use Rattle.book.specs.Tables as book
 use Rattle.book.specs.Tables.{Book, Tables}
 use Rattle.book.specs.declared.tables.Order.{Order}
-use Rattle.book_room.specs.Arms.{after}
+use Rattle.book_room.specs.Arms.{after, namedIn}
 use Rattle.book_room.specs.Room.{Houses, partsOf, roomOf}
 use Rattle.book.proofs.Keeping as keeping
+use Rattle.book.proofs.Steps.{found-within}
 use Rattle.session_message.specs.Source.{Begins, Goes, Lies as InBytes, messageAt, onwardOf, sizeIn, textAfter, windowAfter}
 use Rattle.session_message.specs.declared.Source.{Source}
 use Rattle.session_message.proofs.Choices.{freed-packet, freed-window, message-packet, message-window, onward-packet, onward-window, size-packet, size-window, text-packet, text-window}
@@ -41,12 +44,16 @@ use Rattle.window_taking.specs.Keeping.{Known, Neat, admittedOf, countOf, heldB
 use Rattle.window_taking.specs.Taking.{judge, takeTests}
 use Rattle.window_taking.specs.Turns.{Closes, Follows, Lies, answerIf, atStart, behind, closing, doneIn, endFrom, frameAt, lengthAt, packetAt, packetsFrom, placeAfter, placeIf, turnOf}
 use Rattle.window_taking.specs.declared.burst.Turn.{Turn}
-use Rattle.window_taking.proofs.Ahead.{Ahead, ahead-of, freed, level-of}
+use Rattle.window_taking.specs.Ahead.{Ahead, freed}
+use Rattle.window_taking.proofs.Ahead.{ahead-of, level-of}
 use Rattle.window_taking.proofs.Following.{Another, Ended, another, ended}
 use Rattle.window_taking.proofs.Windows.{fine, in-places, place-free, place-used, placed, same-window, waiting-for, waits-place, window-size}
-use Rattle.session.specs.Meaning.{Held, Meaning, endIn, feed, held, nextIn, overnight, rep, view, Ruled}
+use Rattle.session.specs.Meaning.{Held, Meaning, endIn, feed, held, nextIn, overnight, rep, Ruled}
 use Rattle.session.specs.Bursts.{Runs, refusalOf, rowWith, rowsOf}
-use Rattle.session.proofs.States.{Good, Stands, good-kept, good-step, kept, meaning, neat, ready, stands, waits-below, within}
+use Rattle.session.specs.Engine.{Going, Good, NamedAt, Open, Over, PutAt, Task, Touched, Waits, atHandOf, betweenOf, finish, restOf, rowsFrom, taskOf}
+use Rattle.session.specs.declared.advancing.Point.{Point}
+use Rattle.session.specs.declared.touching.Touch.{Touch}
+use Rattle.session.proofs.States.{Stands, good-kept, good-step, kept, meaning, neat, ready, stands, waits-below, within}
 
 -- ---- a packet, on the window alone and on the whole session
 
@@ -130,50 +137,15 @@ module _ (x : Meaning) {w : List ℕ} {next end : ℕ} (g : Good x) (window : w 
 
 -- ---- where the engine is
 
-abbrev pub finish : Meaning → ℕ → ℕ → Meaning
-finish x before next = applyUpTo feed (before + 256 - next) x
-
--- the packets that are left
-abbrev restOf : Bool → List ℕ → Turn → List (List ℕ)
-restOf single s turn = packetsFrom single (turn .left) (turn .at) s
-
--- the answers that are to come, from the one at hand on
-abbrev rowsFrom : Turn → Meaning → List (List ℕ) → List ℕ
-rowsFrom turn z rest = answerIf (turn .begun) (rowWith (turn .before) (turn .refusal) z) ++ rowsOf z rest
-
-pub record Open (all : Meaning) (written : List ℕ) (s : List ℕ) (single : Bool) (count : ℕ) (answers : List ℕ) (n₀ e₀ : ℕ) (os : List Order) (numbers w : List ℕ) (next : ℕ) (turn : Turn) (source : Source) : Type 0 where
-  pub state : Meaning
-  pub good : Good state
-  pub orders : os ≡ book.rep (state .tables) .orders
-  pub housed : numbers ≡ roomOf n₀ e₀ (book.rep (state .tables))
-  pub ahead : Ahead s (source .left) (source .from) (state .next) w (state .waiting)
-  pub long : length w ≡ 32768
-  pub at : next ≡ state .next
-  pub end : turn .end ≡ state .end
-  pub low : turn .before ≤ next
-  pub near : (k : ℕ) → turn .before + 256 ≤ k → state .waiting k ≡ none
-  pub within : turn .at ≤ length s
-  pub left : turn .left ≤ count
-  pub taken : length (packetsFrom single count 0 s) + turn .left ≡ count + length (restOf single s turn)
-  pub stop : endFrom single count 0 s ≡ endFrom single (turn .left) (turn .at) s
-  pub session : all ≡ takeAll overnight (finish state (turn .before) next) (restOf single s turn)
-  pub rows : written ≡ splice answers (turn .place) (rowsFrom turn (finish state (turn .before) next) (restOf single s turn))
-  pub room : placeAfter turn + 4 * turn .left ≤ length answers
-  pub big : length answers ≤ 18446744073709551615
-
--- what a run gives
-abbrev pub Ends : Meaning → List ℕ → List ℕ → Bool → ℕ → Held → List ℕ → ℕ → ℕ → Type 0
-Ends all written s single count after answers taken at = (after ≡ rep all) × ((answers ≡ written) × ((taken ≡ length (packetsFrom single count 0 s)) × (at ≡ endFrom single count 0 s)))
-
 -- a packet is admitted
-module _ (all : Meaning) (written : List ℕ) (x : Meaning) (s : List ℕ) (single : Bool) (count : ℕ) (answers : List ℕ) (n₀ e₀ : ℕ) {os : List Order} {numbers w w′ : List ℕ} {next end at left place : ℕ} {turn : Turn}
+module _ (task : Task) (x : Meaning) (s : List ℕ) (single : Bool) (answers : List ℕ) {os : List Order} {numbers w w′ : List ℕ} {next end at left place : ℕ} {turn : Turn}
     (bytes : Bytes s) (g : Good x) (front : x .waiting (x .next) ≡ none)
-    (orders : os ≡ book.rep (x .tables) .orders) (housed : numbers ≡ roomOf n₀ e₀ (book.rep (x .tables))) (window : w ≡ windowFor (x .waiting) (x .next)) (nexts : next ≡ x .next) (ends : end ≡ x .end)
-    (lie : Lies single s at) (fewer : left < count)
-    (many : length (packetsFrom single count 0 s) + left ≡ count + length (packetsFrom single left (behind single s at) s))
-    (stop : endFrom single count 0 s ≡ endFrom single left (behind single s at) s)
-    (session : all ≡ takeAll overnight x (packetAt single s at ∷ packetsFrom single left (behind single s at) s))
-    (rows : written ≡ splice answers place (rowsOf x (packetAt single s at ∷ packetsFrom single left (behind single s at) s)))
+    (orders : os ≡ book.rep (x .tables) .orders) (housed : numbers ≡ roomOf (task .next) (task .end) (book.rep (x .tables))) (window : w ≡ windowFor (x .waiting) (x .next)) (nexts : next ≡ x .next) (ends : end ≡ x .end)
+    (lie : Lies single s at) (fewer : left < task .count)
+    (many : length (packetsFrom single (task .count) 0 s) + left ≡ task .count + length (packetsFrom single left (behind single s at) s))
+    (stop : endFrom single (task .count) 0 s ≡ endFrom single left (behind single s at) s)
+    (session : task .all ≡ takeAll overnight x (packetAt single s at ∷ packetsFrom single left (behind single s at) s))
+    (rows : task .written ≡ splice answers place (rowsOf x (packetAt single s at ∷ packetsFrom single left (behind single s at) s)))
     (room : place + 4 + 4 * left ≤ length answers)
     (big : length answers ≤ 18446744073709551615)
     (turned : turn ≡ turnOf (stateOf w next end) single s at left place)
@@ -222,7 +194,7 @@ module _ (all : Meaning) (written : List ℕ) (x : Meaning) (s : List ℕ) (sing
         ap length is ∙ window-size (within good),
       )
 
-  pub opens : Open all written s single count answers n₀ e₀ os numbers w′ next turn (record { left = turn .direct; from = turn .from })
+  pub opens : Open task s single answers os numbers w′ next turn (record { left = turn .direct; from = turn .from })
   unfolding takeAll rowsOf Led
   opens =
       let before : turn .before ≡ next = ap (λ (t : Turn). t .before) turned in
@@ -237,7 +209,7 @@ module _ (all : Meaning) (written : List ℕ) (x : Meaning) (s : List ℕ) (sing
         state = keptBy x (packetAt single s at);
         good = good;
         orders = orders ∙ ap (λ (t : Tables). book.rep t .orders) (sym (kn .1));
-        housed = housed ∙ ap (λ (t : Tables). roomOf n₀ e₀ (book.rep t)) (sym (kn .1));
+        housed = housed ∙ ap (λ (t : Tables). roomOf (task .next) (task .end) (book.rep t)) (sym (kn .1));
         ahead = on .0;
         long = on .1;
         at = nexts ∙ sym (kn .0);
@@ -283,8 +255,8 @@ pub record Here (s : List ℕ) (source : Source) (size : ℕ) (text : List ℕ) 
   pub fewer : before + 256 - (next + 1) < before + 256 - next
 
 -- what waits at next, by the size where it lies
-module _ {all : Meaning} {written : List ℕ} {s : List ℕ} {single : Bool} {count : ℕ} {answers : List ℕ} {n₀ e₀ : ℕ} {os : List Order} {numbers w : List ℕ} {next : ℕ} {turn : Turn} {source : Source}
-    (o : Open all written s single count answers n₀ e₀ os numbers w next turn source) where
+module _ {task : Task} {s : List ℕ} {single : Bool} {answers : List ℕ} {os : List Order} {numbers w : List ℕ} {next : ℕ} {turn : Turn} {source : Source}
+    (o : Open task s single answers os numbers w next turn source) where
   abbrev pub tabled : Book
   tabled = book.rep (o .state .tables)
 
@@ -345,7 +317,7 @@ module _ {all : Meaning} {written : List ℕ} {s : List ℕ} {single : Bool} {co
           go false = omega arith
 
       module _ {answers′ : List ℕ} (put : answers′ ≡ splice answers (turn .place) (closing turn next)) where
-        put-row : written ≡ splice answers′ (placeAfter turn) (rowsOf (o .state) (restOf single s turn))
+        put-row : task .written ≡ splice answers′ (placeAfter turn) (rowsOf (o .state) (restOf single s turn))
         put-row =
             o .rows
             ∙ ap (λ (z : Meaning). splice answers (turn .place) (rowsFrom turn z (restOf single s turn))) settled
@@ -361,14 +333,18 @@ module _ {all : Meaning} {written : List ℕ} {s : List ℕ} {single : Bool} {co
           none-follows : Ended single s turn
           none-follows = ended single s turn last
 
-          pub ends : Ends all written s single count (held (record { orders = os }) (set (set numbers 0 next) 1 (turn .end)) w) answers′ (count - turn .left) (turn .at)
+          pub ends : Over task s single os (set (set numbers 0 next) 1 (turn .end)) w answers′ (betweenOf next turn source)
           unfolding takeAll rowsOf partsOf
           ends =
               let none-is : restOf single s turn ≡ [] = none-follows .packets in
-              let whole-run : all ≡ o .state = o .session ∙ ap₂ (takeAll overnight) settled none-is in
-              let written-all : answers′ ≡ written = sym (put-row ∙ ap (λ (l : List (List ℕ)). splice answers′ (placeAfter turn) (rowsOf (o .state) l)) none-is ∙ splice-none answers′ (placeAfter turn)) in
-              let many : count - turn .left ≡ length (packetsFrom single count 0 s) = omega (arith, o .taken, o .left, ap length none-is) in
-              ((λ i. held (record { orders = o .orders i }) (set (set (o .housed i) 0 (o .at i)) 1 (o .end i)) (window i)) ∙ ap rep (sym whole-run), (written-all, (many, sym (o .stop ∙ none-follows .end))))
+              let whole-run : task .all ≡ o .state = o .session ∙ ap₂ (takeAll overnight) settled none-is in
+              record {
+                held = (λ i. held (record { orders = o .orders i }) (set (set (o .housed i) 0 (o .at i)) 1 (o .end i)) (window i)) ∙ ap rep (sym whole-run);
+                answers = sym (put-row ∙ ap (λ (l : List (List ℕ)). splice answers′ (placeAfter turn) (rowsOf (o .state) l)) none-is ∙ splice-none answers′ (placeAfter turn));
+                left = o .left;
+                taken = omega (arith, o .taken, o .left, ap length none-is);
+                at = sym (o .stop ∙ none-follows .end);
+              }
 
         -- another one
         module _ (other : doneIn single s turn ≡ false) where
@@ -380,9 +356,9 @@ module _ {all : Meaning} {written : List ℕ} {s : List ℕ} {single : Bool} {co
 
           pub follows : {w′ : List ℕ} {turn′ : Turn} → Bytes s → turn′ ≡ turnOf (stateOf w next (turn .end)) single s (turn .at) (turn .left - 1) (placeAfter turn)
               → w′ ≡ windowFor (heldBy (stateOf w next (turn .end)) (packetAt single s (turn .at)) .waiting) next
-              → Open all written s single count answers′ n₀ e₀ os numbers w′ next turn′ (record { left = turn′ .direct; from = turn′ .from })
+              → Open task s single answers′ os numbers w′ next turn′ (record { left = turn′ .direct; from = turn′ .from })
           follows {w′} {turn′} bytes turned after =
-              opens all written (o .state) s single count answers′ n₀ e₀ bytes (o .good) front (o .orders) (o .housed) window (o .at) (o .end)
+              opens task (o .state) s single answers′ bytes (o .good) front (o .orders) (o .housed) window (o .at) (o .end)
               (one-follows .lies)
               (omega (arith, o .left, one-follows .some))
               (omega (arith, o .taken, one-follows .some, ap length (one-follows .packets)))
@@ -461,12 +437,15 @@ module _ {all : Meaning} {written : List ℕ} {s : List ℕ} {single : Bool} {co
       number-below : next < 4294967296
       number-below = omega (arith, o .at, waits-below (o .good) (o .state .next) waits)
 
-      pub houses : Houses numbers n₀ e₀ tabled next m
+      houses : Houses numbers (task .next) (task .end) tabled next m
       houses =
           record {
             ready = subst (λ (n : ℕ). Ready tabled n m) (sym (o .at)) (ready (o .good) waits);
             is = o .housed;
           }
+
+      pub houses-read : {bytes : List ℕ} → bytes ≡ m → Houses numbers (task .next) (task .end) tabled next bytes
+      houses-read is = subst (Houses numbers (task .next) (task .end) tabled next) (sym is) houses
 
       early : next < turn .before + 256
       early =
@@ -518,8 +497,8 @@ module _ {all : Meaning} {written : List ℕ} {s : List ℕ} {single : Bool} {co
             ap length (freed-packet source n w (next % 256)) ∙ o .long,
           ))
 
-      pub applied : {os′ : List Order} {numbers′ w′ : List ℕ} {source′ : Source} → os′ ≡ after tabled next m .orders → numbers′ ≡ roomOf n₀ e₀ (after tabled next m)
-          → w′ ≡ windowAfter w source (next % 256) → source′ ≡ onwardOf source size → Open all written s single count answers n₀ e₀ os′ numbers′ w′ (next + 1) turn source′
+      pub applied : {os′ : List Order} {numbers′ w′ : List ℕ} {source′ : Source} → os′ ≡ after tabled next m .orders → numbers′ ≡ roomOf (task .next) (task .end) (after tabled next m)
+          → w′ ≡ windowAfter w source (next % 256) → source′ ≡ onwardOf source size → Open task s single answers os′ numbers′ w′ (next + 1) turn source′
       unfolding step moved Led′
       applied {os′} {numbers′} {w′} {source′} orders housed is on =
           let behind : after tabled next m ≡ book.rep (applyOf (o .state .tables) (o .state .next) m) = ap₂ (λ (t : Tables) (n : ℕ). book.rep (applyOf t n m)) (keeping.view-rep (o .state .tables)) (o .at) in
@@ -527,7 +506,7 @@ module _ {all : Meaning} {written : List ℕ} {s : List ℕ} {single : Bool} {co
             state = step feed (o .state) (some m);
             good = good-step (o .good) waits;
             orders = orders ∙ ap (λ (b : Book). b .orders) behind;
-            housed = housed ∙ ap (roomOf n₀ e₀) behind;
+            housed = housed ∙ ap (roomOf (task .next) (task .end)) behind;
             ahead =
                 subst (λ (z : Source). Ahead s (z .left) (z .from) (o .state .next + 1) w′ (freedAt (o .state))) (sym on)
                 (subst (λ (l : List ℕ). Ahead s (onwardOf source size .left) (onwardOf source size .from) (o .state .next + 1) l (freedAt (o .state))) (sym is) (led-on .0));
@@ -558,6 +537,58 @@ module _ {all : Meaning} {written : List ℕ} {s : List ℕ} {single : Bool} {co
             fewer = omega (arith, early);
           }
 
+      -- it is done but for what it leaves to do in the order table
+      module _ {numbers′ w′ : List ℕ} {source′ : Source} {r : Touch} {bytes : List ℕ} (is : bytes ≡ m) (done : Touched numbers′ (task .next) (task .end) tabled next bytes r)
+          (clear : w′ ≡ windowAfter w source (next % 256)) (on : source′ ≡ onwardOf source size) (space : length answers ≡ task .space) where
+        touched : Touched numbers′ (task .next) (task .end) tabled next m r
+        touched = subst (λ (l : List ℕ). Touched numbers′ (task .next) (task .end) tabled next l r) is done
+
+        abbrev at-hand : Point
+        at-hand = atHandOf r source size (next + 1) turn source′
+
+        goes-on : {os′ : List Order} {rooms : List ℕ} → os′ ≡ after tabled next m .orders → rooms ≡ roomOf (task .next) (task .end) (after tabled next m)
+            → Going task s single os′ rooms w′ answers text′ at-hand
+        goes-on orders housed = record { now = applied orders housed clear on; wide = wider; long = space }
+
+        place-within : r .touches ≡ true → r .place < 256
+        place-within some-order =
+            by-cases (ℕ-discrete (typeIn m) 21)
+            (λ e. touched .adds some-order e .within)
+            (λ n. found-within (tabled .keys) (tabled .live) (namedIn tabled m .key) (kept (o .good) .live) refl (touched .names some-order n .spot))
+
+        pub waits-so : r .touches ≡ true → Waits task s single os numbers′ w′ answers text′ (atHandOf r source size (next + 1) turn source′)
+        waits-so some-order =
+            record {
+              whole = whole;
+              lies = lies;
+              cut = cut;
+              wide = wider;
+              many = orders-long;
+              within = place-within some-order;
+              puts =
+                  λ e.
+                  let a : PutAt numbers′ (task .next) (task .end) tabled next m r = touched .adds some-order e in
+                  record { naming = a .naming; going = goes-on (ap (λ (l : List Order). set l (r .place) (orderOf (fieldsOf 21 m))) (o .orders) ∙ sym (a .orders)) (a .is) };
+              names =
+                  λ n.
+                  let a : NamedAt numbers′ (task .next) (task .end) tabled m r = touched .names some-order n in
+                  record {
+                    tables = tabled;
+                    number = next;
+                    behind = refl;
+                    kind = a .kind;
+                    houses = record { ready = houses .ready; is = a .is };
+                    orders = o .orders;
+                    named = a .name;
+                    spot = a .spot;
+                    going = goes-on;
+                  };
+            }
+
+        pub passes-so : r .touches ≡ false → Going task s single os numbers′ w′ answers text′ (betweenOf (next + 1) turn source′)
+        passes-so none-touched =
+            record { now = applied (o .orders ∙ sym (touched .passes none-touched .orders)) (touched .passes none-touched .is) clear on; wide = wider; long = space }
+
 -- the burst's steps that are left: those of the packet at hand, and as many as a packet can have for each that follows
 pub less-turn : (turn turn′ : Turn) (next : ℕ) → turn′ .left ≡ turn .left - 1 → turn′ .before ≡ next → 1 ≤ turn .left
     → turn′ .left * 257 + (turn′ .before + 256 - next) < turn .left * 257 + (turn .before + 256 - next)
@@ -572,7 +603,7 @@ bytes-of (b ∷ s) h = (h 0, bytes-of s (λ i. h (suc i)))
 -- where the burst begins: no packet is at hand
 module _ {session : Held} (rule : Ruled session) (s : List ℕ) (single : Bool) {count : ℕ} (answers : List ℕ) (runs : Runs count (length answers)) where
   pub starts : {turn : Turn} → turn ≡ atStart (nextIn (session .room)) (endIn (session .room)) count
-      → Open (takeAll overnight (view session) (packetsFrom single count 0 s)) (splice answers 0 (rowsOf (view session) (packetsFrom single count 0 s))) s single count answers (nextIn (session .room)) (endIn (session .room)) (session .session .orders) (session .room) (session .window) (nextIn (session .room)) turn (record { left = 0; from = 0 })
+      → Open (taskOf session s single count answers) s single answers (session .session .orders) (session .room) (session .window) (nextIn (session .room)) turn (record { left = 0; from = 0 })
   unfolding partsOf
   starts {turn} turned =
       let h : Stands session = stands rule in
@@ -608,9 +639,3 @@ module _ {session : Held} (rule : Ruled session) (s : List ℕ) (single : Bool) 
         room = subst (λ (t : Turn). placeAfter t + 4 * t .left ≤ length answers) (sym turned) (omega (arith, runs .room));
         big = runs .big;
       }
-
--- what the loop keeps
-pub record Going (all : Meaning) (written : List ℕ) (s : List ℕ) (single : Bool) (count : ℕ) (answers₀ answers : List ℕ) (n₀ e₀ : ℕ) (os : List Order) (numbers w : List ℕ) (next : ℕ) (turn : Turn) (source : Source) (text : List ℕ) : Type 0 where
-  pub now : Open all written s single count answers n₀ e₀ os numbers w next turn source
-  pub wide : length text ≡ 128
-  pub same : length answers ≡ length answers₀

@@ -10,7 +10,7 @@ use native.Mathlib.Omega.{arith}
 use Rattle.wire.specs.Number.{Bytes}
 use Rattle.merge.specs.State.{Packet, applyUpTo, copyOf, firstThere, freedAt, keep, opened, step, takeAll, takeIf, takeOne}
 use Rattle.merge.specs.History.{accepted}
-use Rattle.merge.specs.Promise.{Fits, Inv, Rule}
+use Rattle.merge.specs.Promise.{Fits, Rule}
 use Rattle.merge.proofs.Clauses.{freed-next, freed-other, kept-new, kept-old}
 use Rattle.merge.proofs.Demand3.{opened-rule, takeAll-rule}
 use Rattle.merge.proofs.Lowest.{front-free}
@@ -18,7 +18,7 @@ use Rattle.merge.proofs.Rule.{keep-inv, opened-inv, step-inv}
 use Rattle.merge.proofs.Window.{next-end, waits-where}
 use Rattle.message.specs.Whole.{Whole}
 use Rattle.book.specs.Applying.{applyOf}
-use Rattle.book.specs.Rule.{Kept, Ready, Sound}
+use Rattle.book.specs.Rule.{Kept, Ready}
 use Rattle.book.specs.Tables as book
 use Rattle.book.specs.Tables.{Tables}
 use Rattle.book_room.specs.Room.{partsOf}
@@ -30,17 +30,8 @@ use Rattle.window_taking.specs.Taking.{judge}
 use Rattle.window_taking.proofs.Accepted.{overnight-judged}
 use Rattle.window_taking.proofs.Passing.{Passes, passes}
 use Rattle.window_taking.proofs.Windows.{Within, neat-for, waiting-for}
+use Rattle.session.specs.Engine.{Good}
 use Rattle.session.specs.Meaning.{AllBytes, Held, Ruled, Meaning, feed, overnight, rep, tablesIn, view}
-
--- what all of them have, also between two messages
-pub record Good (x : Meaning) : Type 0 where
-  pub start : ℕ
-  pub history : List (Packet (List ℕ))
-  pub inv : Inv feed 256 start history x
-  pub sound : Sound (x .tables)
-  pub counted : x .tables .faults .count ≤ x .next
-  pub whole : (k : ℕ) (m : List ℕ) → x .waiting k ≡ some m → Whole m
-  pub top : x .end ≤ 4294967296
 
 module _ {x : Meaning} (g : Good x) where
   pub within : Within (x .waiting) (x .next)

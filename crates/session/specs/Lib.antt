@@ -4,3 +4,4 @@ pub mod Bursts
 pub mod Passing
 pub mod Asking
 pub mod Quoting
+pub mod Engine

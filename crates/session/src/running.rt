@@ -1,26 +1,16 @@
-// Parts: the engine. It holds the order table, and writes nothing but what a packet or a message changes.
+// Parts: the engine, with the order table by value. It writes nothing but what a packet or a message changes.
+use crate::advancing::Ended;
+use crate::advancing::Point;
+use crate::advancing::advance;
+use crate::advancing::begin;
+use crate::settling::settle;
 use crate::state::Session;
-use book::lookup::place_found;
 use book::tables::no_order;
-use book_deciding::reading::order_of;
-use book_room::adding::Put;
-use book_room::adding::add;
-use book_room::changing::Act;
-use book_room::changing::change;
-use book_room::changing::named;
-use book_room::room::END;
-use book_room::room::NEXT;
 use book_room::room::Room;
-use book_room::telling::tell;
 use fields::digits;
-use session_message::Source;
-use window::places::NUMBERS;
 use window::places::Window;
-use window_burst::close;
-use window_burst::done;
-use window_burst::follow;
-use window_burst::start;
 ghost use mathlib.Core.Path.{_≡_};
+ghost use Prim.Native.Nat.{_-_, _≤_};
 ghost use lib.ListN.{length};
 ghost use Rattle.wire.specs.Number.{splice};
 ghost use Rattle.merge.specs.State.{takeAll};
@@ -35,8 +25,19 @@ pub struct Ran {
     pub at: usize,
 }
 
-// So many packets of the lent bytes, or all that there are, one after the other: each is kept, then all
-// is applied that can be. Where nothing waits, a packet's messages are applied straight from it.
+pub fn ended(count: usize, point: Point) -> Ended
+    requires { ⌜ point .turn .left ≤ count ⌝ }
+    ensures { λ r. ⌜ r ≡ record { taken = count - point .turn .left; at = point .turn .at } ⌝ }
+{
+    let turn = point.turn;
+    Ended {
+        taken: count - turn.left,
+        at: turn.at,
+    }
+}
+
+// So many packets of the lent bytes, or all that there are, one after the other. The engine stops at each
+// message that touches an order, and what that message does is stored here.
 pub fn run(
     mut session: Session,
     room: &mut Room,
@@ -54,61 +55,37 @@ pub fn run(
     ensures at { λ r. ⌜ r .at ≡ endFrom single count 0 (now (packets .entry)) ⌝ }
 {
     let digits = digits::table();
-    let mut next = room[NEXT];
-    let mut turn = start(next, room[END], count);
-    let mut source = Source { left: 0, from: 0 };
     let mut text = [0u8; Session::MOST];
+    let mut point = begin(room, count);
     loop {
-        let place = (next % NUMBERS) as usize;
-        let here = source;
-        let size = session_message::size(window, packets, here, place);
-        if size == 0 {
-            close(answers, turn, next);
-            if done(packets, single, turn) {
-                room[NEXT] = next;
-                room[END] = turn.end;
-                return Ran {
-                    session,
-                    taken: count - turn.left,
-                    at: turn.at,
-                };
-            }
-            turn = follow(window, packets, single, turn, next);
-            source = Source {
-                left: turn.direct,
-                from: turn.from,
+        point = advance(
+            room,
+            window,
+            packets,
+            single,
+            &digits,
+            &mut text,
+            answers,
+            point,
+        );
+        if !point.touches {
+            let end = ended(count, point);
+            return Ran {
+                session,
+                taken: end.taken,
+                at: end.at,
             };
+        }
+        let place = point.place;
+        let there = session.orders[place];
+        let outcome = settle(room, &text, packets, point, there);
+        let last = outcome.last;
+        let order = outcome.order;
+        if outcome.removes {
+            session.orders[place] = session.orders[last];
+            session.orders[last] = no_order();
         } else {
-            session_message::fetch(&mut text, window, here, place);
-            session_message::free(window, here, place);
-            source = session_message::onward(here, size);
-            let bytes = session_message::message(&text, packets, here, size);
-            let number = next;
-            next += 1;
-            let kind = wire::u8_at(bytes, 2);
-            match kind {
-                21 => match add(room, &digits, bytes, number) {
-                    Put::At(place, key) => session.orders[place] = order_of(bytes, key),
-                    Put::Nothing => {}
-                },
-                22 | 23 | 24 | 25 => {
-                    let naming = named(room, &digits, bytes);
-                    let order = naming.order;
-                    let there = session.orders[place_found(order)];
-                    match change(room, bytes, naming, there.shares, there.price, number) {
-                        Act::Replace(place, shares, price) => {
-                            session.orders[place].shares = shares;
-                            session.orders[place].price = price;
-                        }
-                        Act::Remove(place, last) => {
-                            session.orders[place] = session.orders[last];
-                            session.orders[last] = no_order();
-                        }
-                        Act::Nothing => {}
-                    }
-                }
-                _ => tell(room, bytes, number),
-            }
+            session.orders[place] = order;
         }
     }
 }

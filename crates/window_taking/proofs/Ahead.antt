@@ -1,6 +1,6 @@
--- The messages that are applied straight from a packet: what waits while some of them are left.
+-- The messages that are applied straight from a packet wait in their order.
 -- Assumes nothing.
-use mathlib.Core.Path.{_≡_, refl, ap, ap₂, _∙_, sym, subst}
+use mathlib.Core.Path.{_≡_, refl, ap, _∙_, sym, subst}
 use mathlib.Core.Bool.{Bool, true, false, cond, _&&_}
 use mathlib.Core.List.{List, [], _∷_, map}
 use mathlib.Core.Logic.{by-cases}
@@ -26,20 +26,11 @@ use Rattle.wire.proofs.Parts.{part-long, part-part}
 use Rattle.window_taking.specs.Taking.{bytesAt, framesIn, judge, packetIn, takeTests}
 use Rattle.window_taking.specs.Keeping.{countOf, keptBy, keptIf, startsAt, straightIn, windowFor}
 use Rattle.window_taking.specs.Turns.{lengthAt}
+use Rattle.window_taking.specs.Ahead.{Ahead, freed}
 use Rattle.window_taking.proofs.Accepted.{judged, length-frames}
 use Rattle.window_taking.proofs.Passing.{Walks, first-part, walks}
 use Rattle.window_taking.proofs.Walks.{Goes, goes}
 use Rattle.window_taking.proofs.Windows.{same-window}
-
--- what waits but under one number
-abbrev pub freed : ℕ → (ℕ → Option (List ℕ)) → ℕ → Option (List ℕ)
-freed k waiting j = cond (eqb j k) none (waiting j)
-
--- so many messages are left in the bytes from a place on, and wait from next on; once they are applied, the window holds what waits
-abbrev pub Ahead : List ℕ → ℕ → ℕ → ℕ → List ℕ → (ℕ → Option (List ℕ)) → Type 0
-Ahead s zero from next window waiting = window ≡ windowFor waiting next
-Ahead s (suc left) from next window waiting =
-    (waiting next ≡ some (part s from (lengthAt s from))) × ((from + lengthAt s from ≤ length s) × Ahead s left (from + lengthAt s from) (next + 1) window (freed next waiting))
 
 -- a window that holds nothing
 abbrev empty : List ℕ

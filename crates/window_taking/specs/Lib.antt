@@ -2,4 +2,5 @@
 pub mod Taking
 pub mod Keeping
 pub mod Turns
+pub mod Ahead
 pub mod Ten
