@@ -1,15 +1,17 @@
 -- Lent bytes as packets, and what comes of handing them in.
 -- Assumes nothing.
-use mathlib.Core.Bool.{Bool, false, cond}
+use mathlib.Core.Bool.{Bool, false, cond, not}
 use mathlib.Core.List.{List, [], _∷_}
-use Prim.Native.Nat.{ℕ, _*_}
-use lib.Dec.{eqb, ltb}
+use Prim.Native.Nat.{ℕ, _*_, _/_}
+use lib.Dec.{eqb, leb, ltb}
 use lib.ListN.{length}
 use Rattle.wire.specs.Number.{splice}
 use Rattle.merge.specs.State.{takeAll}
 use Rattle.window_taking.specs.Turns.{endFrom, packetsIn}
 use Rattle.session.specs.Meaning.{Meaning, overnight}
 use Rattle.session.specs.Bursts.{rowsOf}
+use Rattle.session.specs.declared.advancing.Ended.{Ended}
+use Rattle.exports.specs.declared.taking.Plan.{Plan}
 use Rattle.single.specs.Over.{over}
 
 -- how many the host says: one, where the bytes are one packet
@@ -39,3 +41,15 @@ answersBy x single count s answers = cond (shortBy single count (length answers)
 -- the refusal, 11 or 0, how many packets were taken, and how many bytes they are
 unfoldable pub takenTold : ℕ → ℕ → List ℕ → ℕ → List ℕ → List ℕ
 takenTold single count s n old = cond (shortBy single count n) (over (11 ∷ 0 ∷ 0 ∷ []) old) (over (0 ∷ length (packetsBy single count s) ∷ bytesBy single count s ∷ []) old)
+
+-- ---- how the call is carried out
+
+-- the bytes are one packet where the first number is not 0; all that the host says are due where their answers fit, and else none
+abbrev pub planOf : ℕ → ℕ → ℕ → Plan
+planOf single count n =
+    let one = not (eqb single 0) in
+    let most = cond one 1 count in
+    record { one = one; due = cond (leb most (n / 4)) most 0; fits = leb most (n / 4) }
+
+abbrev pub toldOf : Bool → Ended → List ℕ
+toldOf fits ended = cond fits 0 11 ∷ ended .taken ∷ ended .at ∷ []

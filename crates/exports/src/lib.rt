@@ -77,16 +77,9 @@ pub extern "C" fn jangsebit_packets(
     ensures told { λ _. ⌜ now (told .exit) ≡ takenTold single count (now (packets .entry)) (length (now (answers .entry))) (now (told .entry)) ⌝ }
     ensures rule { λ _. ⌜ Ruled (held (now (session .exit)) (now (room .exit)) (now (window .exit))) ⌝ }
 {
-    *session = taking::packets(
-        *session,
-        room,
-        window,
-        packets,
-        single,
-        count,
-        answers,
-        told,
-    );
+    let plan = taking::make_plan(single, count, answers.len());
+    let ended = session_lent::run(session, room, window, packets, plan.one, plan.due, answers);
+    taking::tell(told, plan.fits, ended);
 }
 
 // The live order of an id: the id's value, price, shares, firm, the symbol's first eight bytes and its last eight as

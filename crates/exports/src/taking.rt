@@ -1,14 +1,14 @@
-// Opening a session, and packets into it. Both answer the session by value; the export stores it.
+// Opening a session, and what stands around the engine where packets go into one.
 use book_room::room::Room;
-use session::running::run;
+use session::advancing::Ended;
 use session::state::Session;
 use window::places::Window;
 ghost use mathlib.Core.Path.{_≡_};
 ghost use mathlib.Core.Bool.{cond};
-ghost use lib.ListN.{length};
 ghost use Rattle.merge.specs.State.{opened};
-ghost use Rattle.session.specs.Meaning.{feed, held, rep, view, Ruled, Sized};
-ghost use Rattle.exports.specs.Handed.{answersBy, takenBy, takenTold};
+ghost use Rattle.session.specs.Meaning.{feed, held, rep, Ruled, Sized};
+ghost use Rattle.exports.specs.Handed.{planOf, toldOf};
+ghost use Rattle.single.specs.Over.{over};
 
 // A fresh session.
 pub fn open(room: &mut Room, window: &mut Window, number: u32) -> Session
@@ -17,6 +17,13 @@ pub fn open(room: &mut Room, window: &mut Window, number: u32) -> Session
     ensures rule { λ r. ⌜ Ruled (held r (now (room .exit)) (now (window .exit))) ⌝ }
 {
     Session::open(number, room, window)
+}
+
+// What a call takes: whether the bytes are one packet, how many packets are due, and whether the answers fit.
+pub struct Plan {
+    pub one: bool,
+    pub due: usize,
+    pub fits: bool,
 }
 
 // How many the host says; bytes that are one packet are one.
@@ -39,31 +46,22 @@ fn refusal_of(fits: bool) -> u64
     if fits { 0 } else { 11 }
 }
 
-// The one call of the engine: it is inlined here, and the session is not copied once more.
-pub fn packets(
-    session: Session,
-    room: &mut Room,
-    window: &mut Window,
-    packets: &[u8],
-    single: u64,
-    count: u64,
-    answers: &mut [u64],
-    told: &mut [u64; 3],
-) -> Session
-    requires { ⌜ Ruled (held session (now room) (now window)) ⌝ }
-    ensures taken { λ r. ⌜ held r (now (room .exit)) (now (window .exit)) ≡ rep (takenBy (view (held session (now (room .entry)) (now (window .entry)))) single count (now (packets .entry)) (length (now (answers .entry)))) ⌝ }
-    ensures answers { λ r. ⌜ now (answers .exit) ≡ answersBy (view (held session (now (room .entry)) (now (window .entry)))) single count (now (packets .entry)) (now (answers .entry)) ⌝ }
-    ensures told { λ r. ⌜ now (told .exit) ≡ takenTold single count (now (packets .entry)) (length (now (answers .entry))) (now (told .entry)) ⌝ }
-    ensures rule { λ r. ⌜ Ruled (held r (now (room .exit)) (now (window .exit))) ⌝ }
+// From what the host says and the length of its list of answers.
+pub fn make_plan(single: u64, count: u64, space: usize) -> Plan
+    ensures { λ r. ⌜ r ≡ planOf single count space ⌝ }
 {
     let one = single != 0;
     let most = most_of(one, count as usize);
-    let fits = most <= answers.len() / 4;
+    let fits = most <= space / 4;
     let due = due_of(fits, most);
-    let ran = run(session, room, window, packets, one, due, answers);
-    let after = ran.session;
+    Plan { one, due, fits }
+}
+
+// The refusal, how many packets were taken and how many bytes they are.
+pub fn tell(told: &mut [u64; 3], fits: bool, ended: Ended)
+    ensures { λ _. ⌜ now (told .exit) ≡ over (toldOf fits ended) (now (told .entry)) ⌝ }
+{
     told[0] = refusal_of(fits);
-    told[1] = ran.taken as u64;
-    told[2] = ran.at as u64;
-    after
+    told[1] = ended.taken as u64;
+    told[2] = ended.at as u64;
 }

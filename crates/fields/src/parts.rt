@@ -70,7 +70,7 @@ fn four(digits: &[u8; 256], a: u8, b: u8, c: u8, d: u8) -> u64
     (first * 36 + second) * 1296 + (third * 36 + fourth)
 }
 
-fn digit_of(digits: &[u8; 256], c: u8) -> u64
+pub fn digit_of(digits: &[u8; 256], c: u8) -> u64
     requires { ⌜ now digits ≡ digitTable ⌝ }
     ensures { λ r. ⌜ (r ≡ digitOf c) × (r ≤ 36) ⌝ }
 {
