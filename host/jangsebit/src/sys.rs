@@ -7,6 +7,7 @@
 
 use crate::answers::{Answer, Question, Quote};
 use crate::tables::Order;
+use std::mem::MaybeUninit;
 
 /// How many orders can be live.
 pub const ORDERS: usize = 256;
@@ -266,10 +267,12 @@ impl Memory {
     /// next, end, live orders, insides held, code, the first fault's number, the count of faults, its reason.
     #[inline]
     pub fn numbers(&self) -> [u64; 8] {
-        let mut told = [0; 8];
-        // SAFETY: as above.
-        unsafe { jangsebit_numbers(&self.room, &mut told) }
-        told
+        let mut told = MaybeUninit::<[u64; 8]>::uninit();
+        // SAFETY: as above; all eight numbers are written.
+        unsafe {
+            jangsebit_numbers(&self.room, told.as_mut_ptr());
+            told.assume_init()
+        }
     }
 
     /// The refusal, and how many requests were written.
