@@ -1,12 +1,16 @@
 // What can be asked, as numbers. Where a question is refused, what was lent for the reply stays as it was.
 use book::asking::Reply;
+use book::lookup::Found;
 use book::lookup::back;
 use book::lookup::front;
 use book::tables::Inside;
 use book::tables::Order;
+use book_room::finding::found;
 use book_room::room::HELD;
 use book_room::room::LIVE;
 use book_room::room::Room;
+use fields::id::IdValue;
+use fields::id::value;
 use session::quoting::Quoted;
 use session::state::Session;
 use window::asking::Asked;
@@ -16,13 +20,14 @@ ghost use Prim.Native.Nat.{ℕ};
 ghost use mathlib.Core.List.{List};
 ghost use lib.ListN.{length};
 ghost use Rattle.window.specs.Runs.{askedOf, bufferAfter};
-ghost use Rattle.book.specs.Asking.{insideFor, orderAsked};
+ghost use Rattle.book.specs.Asking.{insideFor};
 ghost use Rattle.book_room.specs.Room.{insidesIn};
 ghost use Rattle.session.specs.Meaning.{held, tablesIn, Ruled};
 ghost use Rattle.session.specs.Asking.{gapFrom, gapsOf, lineIn};
 ghost use Rattle.session.specs.Quoting.{quotedOf, quotesAfter, refusalIn};
 ghost use Rattle.session.specs.declared.state.Session.{Session as Table};
 ghost use Rattle.single.specs.Over.{over};
+ghost use Rattle.exports.specs.Spots.{noSpot, replyAt, Spotted};
 ghost use Rattle.exports.specs.Told.{askedRefusal, askedTold, firmNumber, gapNumbers, insideNumbers, insideTold, numbersIn, orderNumbers, orderTold, quotedRefusal};
 
 // Told are next, end, how many orders are live and insides held, the code of the last Trading Session, and of the
@@ -66,21 +71,40 @@ fn tell_order(told: &mut [u64; 8], order: Order)
     told[7] = order.unsolicited as u64;
 }
 
-pub fn order(session: Session, room: &Room, id: &[u8; 14], told: &mut [u64; 8]) -> u64
-    requires { ⌜ ((window : List ℕ) × Ruled (held session (now room) window)) ⌝ }
-    ensures refusal { λ r. ⌜ r ≡ refusalIn (orderAsked (tablesIn session (now (room .entry))) (now (id .entry)) .reply) ⌝ }
-    ensures told { λ r. ⌜ now (told .exit) ≡ orderTold (orderAsked (tablesIn session (now (room .entry))) (now (id .entry))) (now (told .entry)) ⌝ }
+// Where the order of an id is live: the refusal, and the place where it is 0.
+pub struct Spot {
+    pub refusal: u64,
+    pub place: usize,
+}
+
+fn no_spot(refusal: u64) -> Spot
+    ensures { λ r. ⌜ r ≡ noSpot refusal ⌝ }
 {
-    let answer = session::asking::order(session, room, *id);
-    let reply = answer.reply;
-    match reply {
-        Reply::Known => {
-            let found = answer.order;
-            tell_order(told, found);
-            0
-        }
-        Reply::Refused(number) => number as u64,
+    Spot { refusal, place: 0 }
+}
+
+pub fn locate(room: &Room, id: &[u8; 14]) -> Spot
+    requires { ⌜ ((session : Table) × (window : List ℕ) × Ruled (held session (now room) window)) ⌝ }
+    ensures { λ r. ⌜ ((session : Table) (window : List ℕ) → Ruled (held session (now (room .entry)) window) → Spotted session (now (room .entry)) (now (id .entry)) r) ⌝ }
+{
+    let IdValue::Value(key) = value(*id) else {
+        return no_spot(12);
+    };
+    let Found::At(place) = found(room, key) else {
+        return no_spot(13);
+    };
+    Spot { refusal: 0, place }
+}
+
+// The order at the spot; nothing where it is refused.
+pub fn tell_at(told: &mut [u64; 8], spot: Spot, there: Order) -> u64
+    ensures refusal { λ r. ⌜ r ≡ refusalIn (replyAt spot there .reply) ⌝ }
+    ensures told { λ r. ⌜ now (told .exit) ≡ orderTold (replyAt spot there) (now (told .entry)) ⌝ }
+{
+    if spot.refusal == 0 {
+        tell_order(told, there);
     }
+    spot.refusal
 }
 
 fn tell_inside(told: &mut [u64; 6], inside: Inside)
