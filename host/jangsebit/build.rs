@@ -1,4 +1,4 @@
-//! Links the archive of the proved library. host/build.sh makes it; nothing is proved from here.
+//! Links the archive of the proved library. tools/archive.sh makes it; nothing is proved from here.
 
 use std::path::Path;
 
@@ -10,7 +10,7 @@ fn main() {
     println!("cargo:rerun-if-changed={}", archive.display());
     assert!(
         archive.exists(),
-        "{} is not there: run host/build.sh first",
+        "{} is not there: run tools/archive.sh exports first",
         archive.display()
     );
     println!("cargo:rustc-link-lib=static=exports");
