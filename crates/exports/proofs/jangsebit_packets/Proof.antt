@@ -228,64 +228,14 @@ module _ {M : Type 1} (𝓤 : URA M) (H : Heap 𝓤) (A : Atoms 𝓤) (W : Given
         land ! (from ! (stop !)) (init ! 13 refl (subst (λ (k : Val). T (hasTy tyUnit k) × WT k) (sym unit) (tt, tt))) $
         assigns ! (of-opd ! (unit-lit !)) (from ! (stop !)) (init ! 47 refl (tt, tt)) $
         returns ! (look ! 47 refl) $
-        forget ! 47 refl $
-        forget ! 45 refl $
-        forget ! 43 refl $
-        forget ! 41 refl $
-        forget ! 39 refl $
-        forget ! 37 refl $
-        forget ! 35 refl $
-        forget ! 33 refl $
-        forget ! 31 refl $
-        forget ! 29 refl $
-        forget ! 27 refl $
-        forget ! 25 refl $
-        forget ! 23 refl $
-        forget ! 21 refl $
-        forget ! 19 refl $
-        forget ! 17 refl $
-        forget ! 15 refl $
-        forget ! 13 refl $
-        forget ! 11 refl $
-        move ! (47 ∷ 48 ∷ []) $
-        free1 ! $
-        move ! (45 ∷ 46 ∷ []) $
-        free1 ! $
-        move ! (43 ∷ 44 ∷ []) $
-        free1 ! $
-        move ! (41 ∷ 42 ∷ []) $
-        free1 ! $
-        move ! (39 ∷ 40 ∷ []) $
-        free1 ! $
-        move ! (37 ∷ 38 ∷ []) $
-        free1 ! $
-        move ! (35 ∷ 36 ∷ []) $
-        free1 ! $
-        move ! (33 ∷ 34 ∷ []) $
-        free1 ! $
-        move ! (31 ∷ 32 ∷ []) $
-        free1 ! $
-        move ! (29 ∷ 30 ∷ []) $
-        free1 ! $
-        move ! (27 ∷ 28 ∷ []) $
-        free1 ! $
-        move ! (25 ∷ 26 ∷ []) $
-        free1 ! $
-        move ! (23 ∷ 24 ∷ []) $
-        free1 ! $
-        move ! (21 ∷ 22 ∷ []) $
-        free1 ! $
-        move ! (19 ∷ 20 ∷ []) $
-        free1 ! $
-        move ! (17 ∷ 18 ∷ []) $
-        free1 ! $
-        move ! (15 ∷ 16 ∷ []) $
-        free1 ! $
-        move ! (13 ∷ 14 ∷ []) $
-        free1 ! $
-        move ! (11 ∷ 12 ∷ []) $
-        free1 ! $
-        free0 ! $
+        forget ! 47 refl $ forget ! 45 refl $ forget ! 43 refl $ forget ! 41 refl $ forget ! 39 refl $ forget ! 37 refl $ forget ! 35 refl $
+        forget ! 33 refl $ forget ! 31 refl $ forget ! 29 refl $ forget ! 27 refl $ forget ! 25 refl $ forget ! 23 refl $ forget ! 21 refl $
+        forget ! 19 refl $ forget ! 17 refl $ forget ! 15 refl $ forget ! 13 refl $ forget ! 11 refl $ move ! (47 ∷ 48 ∷ []) $ free1 ! $
+        move ! (45 ∷ 46 ∷ []) $ free1 ! $ move ! (43 ∷ 44 ∷ []) $ free1 ! $ move ! (41 ∷ 42 ∷ []) $ free1 ! $ move ! (39 ∷ 40 ∷ []) $ free1 ! $
+        move ! (37 ∷ 38 ∷ []) $ free1 ! $ move ! (35 ∷ 36 ∷ []) $ free1 ! $ move ! (33 ∷ 34 ∷ []) $ free1 ! $ move ! (31 ∷ 32 ∷ []) $ free1 ! $
+        move ! (29 ∷ 30 ∷ []) $ free1 ! $ move ! (27 ∷ 28 ∷ []) $ free1 ! $ move ! (25 ∷ 26 ∷ []) $ free1 ! $ move ! (23 ∷ 24 ∷ []) $ free1 ! $
+        move ! (21 ∷ 22 ∷ []) $ free1 ! $ move ! (19 ∷ 20 ∷ []) $ free1 ! $ move ! (17 ∷ 18 ∷ []) $ free1 ! $ move ! (15 ∷ 16 ∷ []) $ free1 ! $
+        move ! (13 ∷ 14 ∷ []) $ free1 ! $ move ! (11 ∷ 12 ∷ []) $ free1 ! $ free0 ! $
         keep ! (10 ∷ 9 ∷ 8 ∷ 7 ∷ 6 ∷ 0 ∷ 5 ∷ 4 ∷ 2 ∷ 3 ∷ 1 ∷ []) $
         by ! (exits p planned x bytes))))))))))))))))))))))))))))))
 

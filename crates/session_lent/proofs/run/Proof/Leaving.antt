@@ -108,98 +108,17 @@ module _ (z : Spots) where
         move ! (14 ∷ []) $
         use1 W (‵ (froom (tyArray (tyInt w8) 128) l₁₀ 0)) (freed 𝓤 H A W 128 tx l₁₀) $
         returns ! (look ! 15 refl) $
-        forget ! 15 refl $
-        forget ! 16 refl $
-        forget ! 17 refl $
-        forget ! 18 refl $
-        forget ! 19 refl $
-        forget ! 20 refl $
-        forget ! 21 refl $
-        forget ! 22 refl $
-        forget ! 23 refl $
-        forget ! 24 refl $
-        move ! (15 ∷ 54 ∷ []) $
-        free1 ! $
-        move ! (15 ∷ 53 ∷ []) $
-        free1 ! $
-        move ! (15 ∷ 52 ∷ []) $
-        free1 ! $
-        move ! (15 ∷ 51 ∷ []) $
-        free1 ! $
-        move ! (15 ∷ 50 ∷ []) $
-        free1 ! $
-        move ! (15 ∷ 49 ∷ []) $
-        free1 ! $
-        move ! (15 ∷ 48 ∷ []) $
-        free1 ! $
-        move ! (15 ∷ 47 ∷ []) $
-        free1 ! $
-        move ! (1 ∷ 46 ∷ []) $
-        free1 ! $
-        move ! (14 ∷ 45 ∷ []) $
-        free1 ! $
-        move ! (0 ∷ 44 ∷ []) $
-        free1 ! $
-        move ! (13 ∷ 43 ∷ []) $
-        free1 ! $
-        move ! (13 ∷ 42 ∷ []) $
-        free1 ! $
-        move ! (13 ∷ 41 ∷ []) $
-        free1 ! $
-        move ! (13 ∷ 40 ∷ []) $
-        free1 ! $
-        move ! (13 ∷ 39 ∷ []) $
-        free1 ! $
-        move ! (13 ∷ 38 ∷ []) $
-        free1 ! $
-        move ! (13 ∷ 37 ∷ []) $
-        free1 ! $
-        move ! (13 ∷ 36 ∷ []) $
-        free1 ! $
-        move ! (13 ∷ 35 ∷ []) $
-        free1 ! $
-        move ! (13 ∷ 34 ∷ []) $
-        free1 ! $
-        move ! (13 ∷ 33 ∷ []) $
-        free1 ! $
-        move ! (13 ∷ 32 ∷ []) $
-        free1 ! $
-        move ! (13 ∷ 31 ∷ []) $
-        free1 ! $
-        move ! (13 ∷ 30 ∷ []) $
-        free1 ! $
-        move ! (13 ∷ 29 ∷ []) $
-        free1 ! $
-        move ! (13 ∷ 28 ∷ []) $
-        free1 ! $
-        move ! (13 ∷ 27 ∷ []) $
-        free1 ! $
-        move ! (13 ∷ 26 ∷ []) $
-        free1 ! $
-        move ! (13 ∷ 25 ∷ []) $
-        free1 ! $
-        move ! (13 ∷ 24 ∷ []) $
-        free1 ! $
-        move ! (13 ∷ 23 ∷ []) $
-        free1 ! $
-        move ! (13 ∷ 22 ∷ []) $
-        free1 ! $
-        move ! (13 ∷ 21 ∷ []) $
-        free1 ! $
-        move ! (13 ∷ 20 ∷ []) $
-        free1 ! $
-        move ! (13 ∷ 19 ∷ []) $
-        free1 ! $
-        move ! (13 ∷ 18 ∷ []) $
-        free1 ! $
-        move ! (13 ∷ 17 ∷ []) $
-        free1 ! $
-        move ! (13 ∷ 16 ∷ []) $
-        free1 ! $
-        move ! (13 ∷ 15 ∷ []) $
-        free1 ! $
-        move ! (13 ∷ 14 ∷ []) $
-        free1 ! $
-        free0 ! $
+        forget ! 15 refl $ forget ! 16 refl $ forget ! 17 refl $ forget ! 18 refl $ forget ! 19 refl $ forget ! 20 refl $ forget ! 21 refl $
+        forget ! 22 refl $ forget ! 23 refl $ forget ! 24 refl $ move ! (15 ∷ 54 ∷ []) $ free1 ! $ move ! (15 ∷ 53 ∷ []) $ free1 ! $
+        move ! (15 ∷ 52 ∷ []) $ free1 ! $ move ! (15 ∷ 51 ∷ []) $ free1 ! $ move ! (15 ∷ 50 ∷ []) $ free1 ! $ move ! (15 ∷ 49 ∷ []) $ free1 ! $
+        move ! (15 ∷ 48 ∷ []) $ free1 ! $ move ! (15 ∷ 47 ∷ []) $ free1 ! $ move ! (1 ∷ 46 ∷ []) $ free1 ! $ move ! (14 ∷ 45 ∷ []) $ free1 ! $
+        move ! (0 ∷ 44 ∷ []) $ free1 ! $ move ! (13 ∷ 43 ∷ []) $ free1 ! $ move ! (13 ∷ 42 ∷ []) $ free1 ! $ move ! (13 ∷ 41 ∷ []) $ free1 ! $
+        move ! (13 ∷ 40 ∷ []) $ free1 ! $ move ! (13 ∷ 39 ∷ []) $ free1 ! $ move ! (13 ∷ 38 ∷ []) $ free1 ! $ move ! (13 ∷ 37 ∷ []) $ free1 ! $
+        move ! (13 ∷ 36 ∷ []) $ free1 ! $ move ! (13 ∷ 35 ∷ []) $ free1 ! $ move ! (13 ∷ 34 ∷ []) $ free1 ! $ move ! (13 ∷ 33 ∷ []) $ free1 ! $
+        move ! (13 ∷ 32 ∷ []) $ free1 ! $ move ! (13 ∷ 31 ∷ []) $ free1 ! $ move ! (13 ∷ 30 ∷ []) $ free1 ! $ move ! (13 ∷ 29 ∷ []) $ free1 ! $
+        move ! (13 ∷ 28 ∷ []) $ free1 ! $ move ! (13 ∷ 27 ∷ []) $ free1 ! $ move ! (13 ∷ 26 ∷ []) $ free1 ! $ move ! (13 ∷ 25 ∷ []) $ free1 ! $
+        move ! (13 ∷ 24 ∷ []) $ free1 ! $ move ! (13 ∷ 23 ∷ []) $ free1 ! $ move ! (13 ∷ 22 ∷ []) $ free1 ! $ move ! (13 ∷ 21 ∷ []) $ free1 ! $
+        move ! (13 ∷ 20 ∷ []) $ free1 ! $ move ! (13 ∷ 19 ∷ []) $ free1 ! $ move ! (13 ∷ 18 ∷ []) $ free1 ! $ move ! (13 ∷ 17 ∷ []) $ free1 ! $
+        move ! (13 ∷ 16 ∷ []) $ free1 ! $ move ! (13 ∷ 15 ∷ []) $ free1 ! $ move ! (13 ∷ 14 ∷ []) $ free1 ! $ free0 ! $
         keep ! (0 ∷ 1 ∷ 2 ∷ 4 ∷ 5 ∷ 6 ∷ 7 ∷ 9 ∷ 10 ∷ 11 ∷ 3 ∷ []) $
         by ! (exits os rm wn an pt r v wide over e)))))

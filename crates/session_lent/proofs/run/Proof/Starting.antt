@@ -142,8 +142,7 @@ module _ (z : Spots) where
         assigns ! (of-opd ! (load ! (from ! (stop !)) (look ! 31 refl))) (from ! (stop !)) (init ! 26 refl (array-lawful 𝓤 H A W u8 (uint-lawful 𝓤 H A W w8) 128 .typed (replicate 128 0) _ isv₂ .0)) $
         move ! (26 ∷ 0 ∷ []) $
         use2 W (‵ (mem (Arr u8 128) .lies (replicate 128 0) l₁₀ 0)) (laid 𝓤 H A W 128 (replicate 128 0) l₁₀ v₂) $
-        forget ! 29 refl $
-        forget ! 30 refl $
+        forget ! 29 refl $ forget ! 30 refl $
         keep ! (4 ∷ 5 ∷ 6 ∷ 7 ∷ 8 ∷ 9 ∷ 10 ∷ 11 ∷ 12 ∷ 13 ∷ 14 ∷ 15 ∷ 16 ∷ 1 ∷ 3 ∷ 2 ∷ 0 ∷ 17 ∷ 18 ∷ 19 ∷ 20 ∷ 21 ∷ 22 ∷ 23 ∷ 24 ∷ 25 ∷ 26 ∷ 27 ∷ 28 ∷ 29 ∷ 30 ∷ 31 ∷ 32 ∷ 33 ∷ 34 ∷ 35 ∷ 36 ∷ 37 ∷ 38 ∷ 39 ∷ 40 ∷ 41 ∷ 42 ∷ 43 ∷ 44 ∷ 45 ∷ 46 ∷ 47 ∷ 48 ∷ 49 ∷ 50 ∷ 51 ∷ 52 ∷ 53 ∷ 54 ∷ 55 ∷ 56 ∷ 57 ∷ 58 ∷ 59 ∷ 60 ∷ 61 ∷ 62 ∷ 63 ∷ 64 ∷ 65 ∷ 66 ∷ 67 ∷ 68 ∷ 69 ∷ 70 ∷ 71 ∷ 72 ∷ 73 ∷ 74 ∷ 75 ∷ 76 ∷ 77 ∷ 78 ∷ 79 ∷ 80 ∷ 81 ∷ 82 ∷ 83 ∷ 84 ∷ 85 ∷ 86 ∷ 87 ∷ 88 ∷ 89 ∷ 90 ∷ 91 ∷ 92 ∷ 93 ∷ 94 ∷ 95 ∷ 96 ∷ []) $
         by ! (beginning (record { κ = κ; κ₁ = κ₁; κ₂ = κ₂; κ₃ = κ₃; κ₄ = κ₄; q = q; q₁ = q₁; q₂ = q₂; q₃ = q₃; q₄ = q₄; αd = αd; γd = γd; b = b; o = o; γ = γ; h = h; b₁ = b₁; o₁ = o₁; γ₁ = γ₁; b₂ = b₂; o₂ = o₂; γ₂ = γ₂; p₃ = p₃; single = single; count = count; b₄ = b₄; o₄ = o₄; n₄ = n₄; γ₄ = γ₄; l₀ = l₀; l₁ = l₁; l₂ = l₂; l₃ = l₃; l₄ = l₄; l₅ = l₅; l₆ = l₆; l₇ = l₇; l₈ = l₈; l₉ = l₉; l₁₀ = l₁₀; l₁₁ = l₁₁; l₁₂ = l₁₂; l₁₃ = l₁₃; l₁₄ = l₁₄; l₁₅ = l₁₅; l₁₆ = l₁₆; l₁₇ = l₁₇; l₁₈ = l₁₈; l₁₉ = l₁₉; l₂₀ = l₂₀; l₂₁ = l₂₁; l₂₂ = l₂₂; l₂₃ = l₂₃; l₂₄ = l₂₄; l₂₅ = l₂₅; l₂₆ = l₂₆; l₂₇ = l₂₇; l₂₈ = l₂₈; l₂₉ = l₂₉; l₃₀ = l₃₀; l₃₁ = l₃₁; l₃₂ = l₃₂; l₃₃ = l₃₃; l₃₄ = l₃₄; l₃₅ = l₃₅; l₃₆ = l₃₆; l₃₇ = l₃₇; l₃₈ = l₃₈; l₃₉ = l₃₉; l₄₀ = l₄₀ }) 𝓤 H A W at-mem run 𝓣 begin-known advance-known settle-known none-known finish-known Post rm₀ wn₀ an₀ same fits space rule runs ends)))))))))))
 

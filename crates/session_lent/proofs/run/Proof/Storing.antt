@@ -107,10 +107,7 @@ module _ (z : Spots) where
         owned ! Or.the-row (Is Or.the-row) (LL.makes Or.the-type Or′.the-plain 𝓤 H A) (oc .order) (machine (oc .order) ∷ []) order-is $
         move ! (2 ∷ 0 ∷ 1 ∷ []) $
         use3 W (‵ (row PS fullShare (elems (set os (pt .place) (oc .order))) b (o + 0))) (one-in 𝓤 H A W fullShare b o os (pt .place) (oc .order) there) $
-        forget ! 53 refl $
-        forget ! 54 refl $
-        forget ! 55 refl $
-        forget ! 28 refl $
+        forget ! 53 refl $ forget ! 54 refl $ forget ! 55 refl $ forget ! 28 refl $
         keep ! (0 ∷ 1 ∷ 2 ∷ 3 ∷ 4 ∷ 5 ∷ 6 ∷ 7 ∷ 8 ∷ 9 ∷ 10 ∷ 11 ∷ 12 ∷ 13 ∷ 14 ∷ 15 ∷ 16 ∷ 17 ∷ 18 ∷ 19 ∷ 20 ∷ 21 ∷ 22 ∷ 23 ∷ 24 ∷ 25 ∷ 26 ∷ 27 ∷ 28 ∷ 29 ∷ 30 ∷ 31 ∷ 32 ∷ 33 ∷ 34 ∷ 35 ∷ 36 ∷ 37 ∷ 38 ∷ 39 ∷ 40 ∷ 41 ∷ 42 ∷ 43 ∷ 44 ∷ 45 ∷ 46 ∷ 47 ∷ 48 ∷ 49 ∷ 50 ∷ 51 ∷ 52 ∷ 53 ∷ 54 ∷ 55 ∷ 56 ∷ 57 ∷ 58 ∷ 59 ∷ 60 ∷ 61 ∷ 62 ∷ 63 ∷ 64 ∷ 65 ∷ 66 ∷ 67 ∷ 68 ∷ 69 ∷ 70 ∷ 71 ∷ 72 ∷ 73 ∷ 74 ∷ 75 ∷ 76 ∷ 77 ∷ 78 ∷ 79 ∷ 80 ∷ 81 ∷ 82 ∷ 83 ∷ 84 ∷ 85 ∷ 86 ∷ 87 ∷ 88 ∷ 89 ∷ 90 ∷ 91 ∷ 92 ∷ 93 ∷ 94 ∷ 95 ∷ 96 ∷ []) $
         by ! k
 
@@ -159,15 +156,7 @@ module _ (z : Spots) where
         owned ! Or.the-row (Is Or.the-row) (LL.makes Or.the-type Or′.the-plain 𝓤 H A) (noOrder) (machine (noOrder) ∷ []) (none-is r v is e) $
         move ! (2 ∷ 0 ∷ 1 ∷ []) $
         use3 W (‵ (row PS fullShare (elems (set (set os (pt .place) (getD os (oc .last) blank)) (oc .last) noOrder)) b (o + 0))) (one-in 𝓤 H A W fullShare b o (set os (pt .place) (getD os (oc .last) blank)) (oc .last) (noOrder) lasting′) $
-        forget ! 44 refl $
-        forget ! 45 refl $
-        forget ! 46 refl $
-        forget ! 47 refl $
-        forget ! 48 refl $
-        forget ! 49 refl $
-        forget ! 50 refl $
-        forget ! 51 refl $
-        forget ! 52 refl $
-        forget ! 28 refl $
+        forget ! 44 refl $ forget ! 45 refl $ forget ! 46 refl $ forget ! 47 refl $ forget ! 48 refl $ forget ! 49 refl $ forget ! 50 refl $
+        forget ! 51 refl $ forget ! 52 refl $ forget ! 28 refl $
         keep ! (0 ∷ 1 ∷ 2 ∷ 3 ∷ 4 ∷ 5 ∷ 6 ∷ 7 ∷ 8 ∷ 9 ∷ 10 ∷ 11 ∷ 12 ∷ 13 ∷ 14 ∷ 15 ∷ 16 ∷ 17 ∷ 18 ∷ 19 ∷ 20 ∷ 21 ∷ 22 ∷ 23 ∷ 24 ∷ 25 ∷ 26 ∷ 27 ∷ 28 ∷ 29 ∷ 30 ∷ 31 ∷ 32 ∷ 33 ∷ 34 ∷ 35 ∷ 36 ∷ 37 ∷ 38 ∷ 39 ∷ 40 ∷ 41 ∷ 42 ∷ 43 ∷ 44 ∷ 45 ∷ 46 ∷ 47 ∷ 48 ∷ 49 ∷ 50 ∷ 51 ∷ 52 ∷ 53 ∷ 54 ∷ 55 ∷ 56 ∷ 57 ∷ 58 ∷ 59 ∷ 60 ∷ 61 ∷ 62 ∷ 63 ∷ 64 ∷ 65 ∷ 66 ∷ 67 ∷ 68 ∷ 69 ∷ 70 ∷ 71 ∷ 72 ∷ 73 ∷ 74 ∷ 75 ∷ 76 ∷ 77 ∷ 78 ∷ 79 ∷ 80 ∷ 81 ∷ 82 ∷ 83 ∷ 84 ∷ 85 ∷ 86 ∷ 87 ∷ 88 ∷ 89 ∷ 90 ∷ 91 ∷ 92 ∷ 93 ∷ 94 ∷ 95 ∷ 96 ∷ []) $
         by ! k)))))
