@@ -63,9 +63,10 @@ class Code:
 
     def split(self, accessor):
         """The two points of a name such as loop-from-effect."""
-        parts = accessor.split("-from-")
-        for k in range(1, len(parts)):
-            to, start = (self.point.get("-from-".join(p)) for p in (parts[:k], parts[k:]))
+        for k in range(len(accessor)):
+            if not accessor.startswith("-from-", k):
+                continue
+            to, start = self.point.get(accessor[:k]), self.point.get(accessor[k + len("-from-") :])
             if to and start and to in self.behind(start):
                 return to, start
         sys.exit(f"points: {accessor} names no two points, one before the other")

@@ -4,3 +4,4 @@ pub mod Firsts
 pub mod Held
 pub mod Requests
 pub mod Splits
+mod Steps

@@ -10,7 +10,7 @@ use lib.ListN.{length}
 use Rattle.wire.specs.Layout.{encode, putRow}
 use Rattle.wire.specs.Number.{splice}
 use Rattle.wire.proofs.Place.{length-splice, splice-next, splice-none}
-use Rattle.window.specs.Runs.{askedOf, bufferAfter, gapsOf, layout, limitOf, missingIn, requestRow, requestsOf, runsOf, IsCount, IsRun, Room}
+use Rattle.window.specs.Runs.{askedOf, bufferAfter, gapsOf, layout, limitOf, missingIn, requestRow, requestsOf, runsFrom, runsOf, IsCount, IsRun, Room}
 use Rattle.window.specs.declared.asking.Asked.the-variants.{Count, Refused}
 use Rattle.window.specs.declared.missing.Gap.{Gap}
 use Rattle.window.proofs.Splits.{gap-none, gap-some, upTo}
@@ -87,3 +87,19 @@ module _ (window : List ℕ) (next end : ℕ) (buf : List ℕ) {limit r : ℕ} (
   unfolding bufferAfter
   asked-all h e =
       (enough h, rw (← enough h) (e ∙ ap (λ (l : ℕ). splice buf 0 (requestsOf (runsOf (missingIn window) next (l - next)))) told))
+
+-- nothing is known beyond next, so nothing is missing
+module _ (window : List ℕ) {next end : ℕ} (buf : List ℕ) (level : end ≡ next) where
+  none : gapsOf window next end ≡ []
+  unfolding runsFrom
+  none =
+      let left : limitOf next end - next ≡ 0 = omega arith in
+      ap (runsOf (missingIn window) next) left
+
+  count-none : Count 0 ≡ askedOf [] (length buf)
+  unfolding askedOf
+  count-none = simp (le-ltb (length buf) 0 (omega arith))
+
+  pub asked-none : (Count 0 ≡ askedOf (gapsOf window next end) (length buf)) × (buf ≡ bufferAfter (gapsOf window next end) buf)
+  unfolding bufferAfter requestsOf
+  asked-none = rw none (count-none, rw (← count-none) (sym (splice-none buf 0)))

@@ -49,12 +49,16 @@ fn requests_from(window: &Window, from: u64, limit: u64, buf: &mut [u8])
     }
 }
 
-// The requests for all that is missing, where the numbers from next on are known up to end.
+// The requests for all that is missing, where the numbers from next on are known up to end. Mostly nothing is known
+// beyond next.
 pub fn requests(window: &Window, next: u64, end: u64, buf: &mut [u8]) -> Asked
     requires { ⌜ (next ≤ end) × (end ≤ 4294967296) ⌝ }
     ensures answer { λ r. ⌜ r ≡ askedOf (gapsOf (now (window .entry)) next end) (length (now (buf .entry))) ⌝ }
     ensures buffer { λ r. ⌜ now (buf .exit) ≡ bufferAfter (gapsOf (now (window .entry)) next end) (now (buf .entry)) ⌝ }
 {
+    if end == next {
+        return Asked::Count(0);
+    }
     let limit = least(end, next + NUMBERS);
     let runs = missing::count(window, next, limit) as usize;
     if buf.len() < REQUEST * runs {

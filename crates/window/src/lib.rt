@@ -4,5 +4,6 @@
 // (specs/Window.antt). Keeping and freeing change one place and no other byte; the runs of missing
 // numbers are those of specs/Runs.antt.
 pub mod asking;
+mod copying;
 pub mod missing;
 pub mod places;

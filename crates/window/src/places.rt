@@ -1,4 +1,5 @@
 // Parts: one place of the window.
+use crate::copying;
 ghost use mathlib.Core.Path.{_≡_};
 ghost use mathlib.Core.List.{[], _∷_};
 ghost use Prim.Native.Nat.{_+_, _*_, _≤_, _<_};
@@ -55,7 +56,7 @@ pub fn keep(window: &mut Window, place: usize, s: &[u8], at: usize, size: usize)
 {
     let start = place * PLACE;
     let end = at + size;
-    wire::put_text(window, start, &s[at..end]);
+    copying::put(window, start, &s[at..end]);
 }
 
 // A place made free.

@@ -10,7 +10,9 @@ use wire::most;
 ghost use mathlib.Core.Path.{_≡_};
 ghost use mathlib.Core.Bool.{_&&_};
 ghost use lib.Dec.{eqb};
-ghost use Rattle.window_taking.specs.Keeping.{stateOf, windowFor, Neat, Known, admittedOf, heldBy};
+ghost use Rattle.packet.specs.Walk.{framesFrom};
+ghost use Rattle.window_taking.specs.Taking.{differFrom, isSome};
+ghost use Rattle.window_taking.specs.Keeping.{stateOf, waitingOf, windowFor, Neat, Known, Passed, admittedOf, heldBy};
 
 fn answer(refusal: u8, end: u64, direct: usize) -> Admitted
     ensures { λ r. ⌜ r ≡ record { refusal = refusal; end = end; direct = direct } ⌝ }
@@ -27,6 +29,19 @@ fn straight(next: u64, end: u64, first: u64) -> bool
     ensures { λ r. ⌜ r ≡ (eqb end next && eqb first next) ⌝ }
 {
     if end == next { first == next } else { false }
+}
+
+// Test 10. What waits lies below end, so a packet that starts there or behind it differs from nothing.
+fn clashes(window: &Window, next: u64, end: u64, s: &[u8], first: u64, messages: u8) -> bool
+    requires { ⌜ Neat (now window) next ⌝ }
+    requires { ⌜ Known (now window) next end ⌝ }
+    requires { ⌜ Passed (now s) next first messages ⌝ }
+    ensures { λ r. ⌜ r ≡ isSome (differFrom (waitingOf (now (window .entry)) next) first (framesFrom messages 12 (now (s .entry))) (now (s .entry))) ⌝ }
+{
+    if end <= first {
+        return false;
+    }
+    differs(window, next, s, first, messages)
 }
 
 pub fn admit(window: &mut Window, next: u64, end: u64, s: &[u8]) -> Admitted
@@ -55,7 +70,7 @@ pub fn admit(window: &mut Window, next: u64, end: u64, s: &[u8]) -> Admitted
     if straight(next, end, first) {
         return answer(0, most(end, stop), messages as usize);
     }
-    if differs(window, next, s, first, messages) {
+    if clashes(window, next, end, s, first, messages) {
         return answer(10, end, 0);
     }
     keep_all(window, next, s, first, messages);

@@ -68,12 +68,22 @@ below-none : (w : List ℕ) (next k : ℕ) → k < next → waitingOf w next k �
 unfolding waitingOf
 below-none w next k l = waiting-below 256 (waitsAt w) next k l
 
-pub none-waits : {w : List ℕ} {next end : ℕ} → Known w next end → end ≡ next → (k : ℕ) → waitingOf w next k ≡ none
-none-waits {w} {next} {end} known level k = go (waitingOf w next k) refl
+-- nothing waits from end on
+none-from : {w : List ℕ} {next end : ℕ} → Known w next end → (k : ℕ) → end ≤ k → waitingOf w next k ≡ none
+none-from {w} {next} {end} known k high = go (waitingOf w next k) refl
   where
     go : (o : Option (List ℕ)) → waitingOf w next k ≡ o → o ≡ none
     go none e = refl
-    go (some m) e = sym e ∙ below-none w next k (omega (arith, known .below k m e, level))
+    go (some m) e = absurd (omega (arith, known .below k m e))
+
+pub none-waits : {w : List ℕ} {next end : ℕ} → Known w next end → end ≡ next → (k : ℕ) → waitingOf w next k ≡ none
+none-waits {w} {next} known level k = by-cases (decLt k next) (λ low. below-none w next k low) (λ high. none-from known k (omega (arith, level)))
+
+-- a packet that starts at end or behind it differs from nothing
+pub none-clashes : {w : List ℕ} {next end : ℕ} (first messages : ℕ) (s : List ℕ) → Known w next end → end ≤ first
+    → false ≡ isSome (differFrom (waitingOf w next) first (framesFrom messages 12 s) s)
+none-clashes {w} {next} first messages s known behind =
+    sym (none-differs (waitingOf w next) first (framesFrom messages 12 s) s (λ j low high. none-from known j (omega arith)))
 
 module _ {w : List ℕ} (s : List ℕ) {next : ℕ} (end : ℕ) (neat : Neat w next) where
   abbrev x : State (List ℕ) (Unit {0})

@@ -36,12 +36,12 @@ returns-5 c =
     let a = straight-on (to.entry-from-answer5 c .args .s .now) (to.entry-from-answer5 c .args .end) (to.entry-from-answer5 c .pre .0) (to.judge-from-answer5 c .judge .ensures) (to.else1-from-answer5 c .if1 .left) (to.fields-from-answer5 c .fields .ensures) (to.else2-from-answer5 c .if2 .left) (to.else3-from-answer5 c .if3 .left) (to.entry-from-answer5 c .pre .1) (to.most3-from-answer5 c .most3 .ensures) (to.straight-from-answer5 c .straight .ensures) (to.then5-from-answer5 c .if5 .taken) (c .answer5 .ensures) in
     (a .answer, a .kept)
 
-differs-requires : tie.Need-differs-requires
-differs-requires c κs = (to.entry-from-differs-arg c .pre .0, passes-on (to.entry-from-differs-arg c .args .s .now) (to.entry-from-differs-arg c .args .end) (to.entry-from-differs-arg c .pre .0) (to.judge-from-differs-arg c .judge .ensures) (to.else1-from-differs-arg c .if1 .left) (to.fields-from-differs-arg c .fields .ensures) (to.else2-from-differs-arg c .if2 .left) (to.else3-from-differs-arg c .if3 .left))
+clashes-requires : tie.Need-clashes-requires
+clashes-requires c κs = (to.entry-from-clashes-arg c .pre .0, (to.entry-from-clashes-arg c .pre .1, passes-on (to.entry-from-clashes-arg c .args .s .now) (to.entry-from-clashes-arg c .args .end) (to.entry-from-clashes-arg c .pre .0) (to.judge-from-clashes-arg c .judge .ensures) (to.else1-from-clashes-arg c .if1 .left) (to.fields-from-clashes-arg c .fields .ensures) (to.else2-from-clashes-arg c .if2 .left) (to.else3-from-clashes-arg c .if3 .left)))
 
 returns-6 : tie.Need-returns-6
 returns-6 c =
-    let a = by-ten (to.entry-from-answer6 c .args .s .now) (to.entry-from-answer6 c .args .end) (to.entry-from-answer6 c .pre .0) (to.judge-from-answer6 c .judge .ensures) (to.else1-from-answer6 c .if1 .left) (to.fields-from-answer6 c .fields .ensures) (to.else2-from-answer6 c .if2 .left) (to.else3-from-answer6 c .if3 .left) (to.differs-from-answer6 c .differs .ensures) (to.then6-from-answer6 c .if6 .taken) (c .answer6 .ensures) in
+    let a = by-ten (to.entry-from-answer6 c .args .s .now) (to.entry-from-answer6 c .args .end) (to.entry-from-answer6 c .pre .0) (to.judge-from-answer6 c .judge .ensures) (to.else1-from-answer6 c .if1 .left) (to.fields-from-answer6 c .fields .ensures) (to.else2-from-answer6 c .if2 .left) (to.else3-from-answer6 c .if3 .left) (to.clashes-from-answer6 c .clashes .ensures) (to.then6-from-answer6 c .if6 .taken) (c .answer6 .ensures) in
     (a .answer, a .kept)
 
 keep-all-requires : tie.Need-keep-all-requires
@@ -49,7 +49,7 @@ keep-all-requires c κs = (to.entry-from-keep-all-arg c .pre .0, passes-on (to.e
 
 returns-7 : tie.Need-returns-7
 returns-7 c =
-    let a = keeps (to.entry-from-answer7 c .args .s .now) (to.entry-from-answer7 c .args .end) (to.entry-from-answer7 c .pre .0) (to.judge-from-answer7 c .judge .ensures) (to.else1-from-answer7 c .if1 .left) (to.fields-from-answer7 c .fields .ensures) (to.else2-from-answer7 c .if2 .left) (to.else3-from-answer7 c .if3 .left) (to.differs-from-answer7 c .differs .ensures) (to.else6-from-answer7 c .if6 .left) (to.most4-from-answer7 c .most4 .ensures) (to.straight-from-answer7 c .straight .ensures) (to.else5-from-answer7 c .if5 .left) (to.keep-all-from-answer7 c .keep-all .ensures) (c .answer7 .ensures) in
+    let a = keeps (to.entry-from-answer7 c .args .s .now) (to.entry-from-answer7 c .args .end) (to.entry-from-answer7 c .pre .0) (to.judge-from-answer7 c .judge .ensures) (to.else1-from-answer7 c .if1 .left) (to.fields-from-answer7 c .fields .ensures) (to.else2-from-answer7 c .if2 .left) (to.else3-from-answer7 c .if3 .left) (to.clashes-from-answer7 c .clashes .ensures) (to.else6-from-answer7 c .if6 .left) (to.most4-from-answer7 c .most4 .ensures) (to.straight-from-answer7 c .straight .ensures) (to.else5-from-answer7 c .if5 .left) (to.keep-all-from-answer7 c .keep-all .ensures) (c .answer7 .ensures) in
     (a .answer, a .kept)
 
 pub admit-spec : {M : Type 1} → statement M
@@ -77,7 +77,7 @@ admit-spec =
     (λ c. search needs)
     (λ c κs. search needs)
     returns-5
-    differs-requires
+    clashes-requires
     (λ c κs. search needs)
     returns-6
     keep-all-requires

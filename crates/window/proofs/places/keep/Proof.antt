@@ -8,7 +8,7 @@ use Rattle.window.proofs.places.keep.Statement.{statement}
 use Rattle.window.proofs.places.keep.Tie as tie
 
 returns : tie.Need-returns
-returns c = c .put-text .ensures ∙ ap (splice _ _) (lent (c .before .before .before .before .args .s .now) (c .before .before .before .before .args .at) (c .before .before .before .before .args .size) (search needs))
+returns c = c .put .ensures ∙ ap (splice _ _) (lent (c .before .before .before .before .args .s .now) (c .before .before .before .before .args .at) (c .before .before .before .before .args .size) (search needs))
 
 pub keep-spec : {M : Type 1} → statement M
 keep-spec =

@@ -23,14 +23,14 @@ entry-from-answer4 c = entry-from-else2 (c .before .before .before .before)
 abbrev pub entry-from-answer5 : tie.After-answer5 → tie.Start
 entry-from-answer5 c = entry-from-else2 (c .before .before .before .before .before .before)
 
-abbrev pub entry-from-differs-arg : tie.After-differs-arg → tie.Start
-entry-from-differs-arg c = entry-from-else2 (c .before .before .before .before .before)
+abbrev pub entry-from-clashes-arg : tie.After-clashes-arg → tie.Start
+entry-from-clashes-arg c = entry-from-else2 (c .before .before .before .before .before)
 
 abbrev pub entry-from-answer6 : tie.After-answer6 → tie.Start
-entry-from-answer6 c = entry-from-differs-arg (c .before .before .before)
+entry-from-answer6 c = entry-from-clashes-arg (c .before .before .before)
 
 abbrev pub entry-from-keep-all-arg : tie.After-keep-all-arg → tie.Start
-entry-from-keep-all-arg c = entry-from-differs-arg (c .before .before .before)
+entry-from-keep-all-arg c = entry-from-clashes-arg (c .before .before .before)
 
 abbrev pub entry-from-answer7 : tie.After-answer7 → tie.Start
 entry-from-answer7 c = entry-from-keep-all-arg (c .before .before .before)
@@ -53,14 +53,14 @@ judge-from-answer4 c = judge-from-else1 (c .before .before .before .before .befo
 abbrev pub judge-from-answer5 : tie.After-answer5 → tie.After-judge
 judge-from-answer5 c = judge-from-else1 (c .before .before .before .before .before .before .before .before .before .before)
 
-abbrev pub judge-from-differs-arg : tie.After-differs-arg → tie.After-judge
-judge-from-differs-arg c = judge-from-else1 (c .before .before .before .before .before .before .before .before .before)
+abbrev pub judge-from-clashes-arg : tie.After-clashes-arg → tie.After-judge
+judge-from-clashes-arg c = judge-from-else1 (c .before .before .before .before .before .before .before .before .before)
 
 abbrev pub judge-from-answer6 : tie.After-answer6 → tie.After-judge
-judge-from-answer6 c = judge-from-differs-arg (c .before .before .before)
+judge-from-answer6 c = judge-from-clashes-arg (c .before .before .before)
 
 abbrev pub judge-from-keep-all-arg : tie.After-keep-all-arg → tie.After-judge
-judge-from-keep-all-arg c = judge-from-differs-arg (c .before .before .before)
+judge-from-keep-all-arg c = judge-from-clashes-arg (c .before .before .before)
 
 abbrev pub judge-from-answer7 : tie.After-answer7 → tie.After-judge
 judge-from-answer7 c = judge-from-keep-all-arg (c .before .before .before)
@@ -80,14 +80,14 @@ else1-from-answer4 c = c .before .before .before .before .before .before .before
 abbrev pub else1-from-answer5 : tie.After-answer5 → tie.Else1
 else1-from-answer5 c = c .before .before .before .before .before .before .before .before .before .before
 
-abbrev pub else1-from-differs-arg : tie.After-differs-arg → tie.Else1
-else1-from-differs-arg c = c .before .before .before .before .before .before .before .before .before
+abbrev pub else1-from-clashes-arg : tie.After-clashes-arg → tie.Else1
+else1-from-clashes-arg c = c .before .before .before .before .before .before .before .before .before
 
 abbrev pub else1-from-answer6 : tie.After-answer6 → tie.Else1
-else1-from-answer6 c = else1-from-differs-arg (c .before .before .before)
+else1-from-answer6 c = else1-from-clashes-arg (c .before .before .before)
 
 abbrev pub else1-from-keep-all-arg : tie.After-keep-all-arg → tie.Else1
-else1-from-keep-all-arg c = else1-from-differs-arg (c .before .before .before)
+else1-from-keep-all-arg c = else1-from-clashes-arg (c .before .before .before)
 
 abbrev pub else1-from-answer7 : tie.After-answer7 → tie.Else1
 else1-from-answer7 c = else1-from-keep-all-arg (c .before .before .before)
@@ -104,14 +104,14 @@ fields-from-answer4 c = c .before .before .before .before .before .before .befor
 abbrev pub fields-from-answer5 : tie.After-answer5 → tie.After-fields
 fields-from-answer5 c = c .before .before .before .before .before .before .before .before .before
 
-abbrev pub fields-from-differs-arg : tie.After-differs-arg → tie.After-fields
-fields-from-differs-arg c = c .before .before .before .before .before .before .before .before
+abbrev pub fields-from-clashes-arg : tie.After-clashes-arg → tie.After-fields
+fields-from-clashes-arg c = c .before .before .before .before .before .before .before .before
 
 abbrev pub fields-from-answer6 : tie.After-answer6 → tie.After-fields
-fields-from-answer6 c = fields-from-differs-arg (c .before .before .before)
+fields-from-answer6 c = fields-from-clashes-arg (c .before .before .before)
 
 abbrev pub fields-from-keep-all-arg : tie.After-keep-all-arg → tie.After-fields
-fields-from-keep-all-arg c = fields-from-differs-arg (c .before .before .before)
+fields-from-keep-all-arg c = fields-from-clashes-arg (c .before .before .before)
 
 abbrev pub fields-from-answer7 : tie.After-answer7 → tie.After-fields
 fields-from-answer7 c = fields-from-keep-all-arg (c .before .before .before)
@@ -131,14 +131,14 @@ else2-from-answer4 c = c .before .before .before .before
 abbrev pub else2-from-answer5 : tie.After-answer5 → tie.Else2
 else2-from-answer5 c = c .before .before .before .before .before .before
 
-abbrev pub else2-from-differs-arg : tie.After-differs-arg → tie.Else2
-else2-from-differs-arg c = c .before .before .before .before .before
+abbrev pub else2-from-clashes-arg : tie.After-clashes-arg → tie.Else2
+else2-from-clashes-arg c = c .before .before .before .before .before
 
 abbrev pub else2-from-answer6 : tie.After-answer6 → tie.Else2
-else2-from-answer6 c = else2-from-differs-arg (c .before .before .before)
+else2-from-answer6 c = else2-from-clashes-arg (c .before .before .before)
 
 abbrev pub else2-from-keep-all-arg : tie.After-keep-all-arg → tie.Else2
-else2-from-keep-all-arg c = else2-from-differs-arg (c .before .before .before)
+else2-from-keep-all-arg c = else2-from-clashes-arg (c .before .before .before)
 
 abbrev pub else2-from-answer7 : tie.After-answer7 → tie.Else2
 else2-from-answer7 c = else2-from-keep-all-arg (c .before .before .before)
@@ -152,14 +152,14 @@ else3-from-answer4 c = c .before .before .before
 abbrev pub else3-from-answer5 : tie.After-answer5 → tie.Else3
 else3-from-answer5 c = c .before .before .before .before .before
 
-abbrev pub else3-from-differs-arg : tie.After-differs-arg → tie.Else3
-else3-from-differs-arg c = c .before .before .before .before
+abbrev pub else3-from-clashes-arg : tie.After-clashes-arg → tie.Else3
+else3-from-clashes-arg c = c .before .before .before .before
 
 abbrev pub else3-from-answer6 : tie.After-answer6 → tie.Else3
-else3-from-answer6 c = else3-from-differs-arg (c .before .before .before)
+else3-from-answer6 c = else3-from-clashes-arg (c .before .before .before)
 
 abbrev pub else3-from-keep-all-arg : tie.After-keep-all-arg → tie.Else3
-else3-from-keep-all-arg c = else3-from-differs-arg (c .before .before .before)
+else3-from-keep-all-arg c = else3-from-clashes-arg (c .before .before .before)
 
 abbrev pub else3-from-answer7 : tie.After-answer7 → tie.Else3
 else3-from-answer7 c = else3-from-keep-all-arg (c .before .before .before)
@@ -185,11 +185,11 @@ most3-from-answer5 c = c .before
 abbrev pub else5-from-answer7 : tie.After-answer7 → tie.Else5
 else5-from-answer7 c = c .before .before .before .before .before .before .before
 
-abbrev pub differs-from-answer6 : tie.After-answer6 → tie.After-differs
-differs-from-answer6 c = c .before .before
+abbrev pub clashes-from-answer6 : tie.After-answer6 → tie.After-clashes
+clashes-from-answer6 c = c .before .before
 
-abbrev pub differs-from-answer7 : tie.After-answer7 → tie.After-differs
-differs-from-answer7 c = c .before .before .before .before .before
+abbrev pub clashes-from-answer7 : tie.After-answer7 → tie.After-clashes
+clashes-from-answer7 c = c .before .before .before .before .before
 
 abbrev pub then6-from-answer6 : tie.After-answer6 → tie.Then6
 then6-from-answer6 c = c .before
