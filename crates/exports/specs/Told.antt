@@ -14,8 +14,6 @@ use Rattle.book.specs.declared.asking.Reply.{Reply}
 use Rattle.book.specs.declared.asking.Reply.the-variants.{Known, Refused}
 use Rattle.book.specs.declared.tables.Inside.{Inside}
 use Rattle.book.specs.declared.tables.Order.{Order}
-use Rattle.session.specs.declared.quoting.Quoted.{Quoted}
-use Rattle.session.specs.declared.quoting.Quoted.the-variants as quoted
 use Rattle.single.specs.Over.{over}
 use Rattle.session.specs.Meaning.{Meaning, codeIn, endIn, faultsIn, liveIn, nextIn}
 
@@ -68,7 +66,3 @@ abbrev pub gapNumbers : Gap → List ℕ
 gapNumbers gap = gap .start ∷ gap .count ∷ []
 
 -- ---- of many questions: the refusal
-
-abbrev pub quotedRefusal : Quoted → ℕ
-quotedRefusal (quoted.Count n) = 0
-quotedRefusal (quoted.Refused number) = number

@@ -11,8 +11,6 @@ use book_room::room::LIVE;
 use book_room::room::Room;
 use fields::id::IdValue;
 use fields::id::value;
-use session::quoting::Quoted;
-use session::state::Session;
 use window::asking::Asked;
 use window::places::Window;
 ghost use mathlib.Core.Path.{_≡_};
@@ -22,13 +20,13 @@ ghost use lib.ListN.{length};
 ghost use Rattle.window.specs.Runs.{askedOf, bufferAfter};
 ghost use Rattle.book.specs.Asking.{insideFor};
 ghost use Rattle.book_room.specs.Room.{insidesIn};
-ghost use Rattle.session.specs.Meaning.{held, tablesIn, Ruled};
+ghost use Rattle.session.specs.Meaning.{held, Ruled};
 ghost use Rattle.session.specs.Asking.{gapFrom, gapsOf, lineIn};
-ghost use Rattle.session.specs.Quoting.{quotedOf, quotesAfter, refusalIn};
+ghost use Rattle.session.specs.Quoting.{refusalIn};
 ghost use Rattle.session.specs.declared.state.Session.{Session as Table};
 ghost use Rattle.single.specs.Over.{over};
 ghost use Rattle.exports.specs.Spots.{noSpot, replyAt, Spotted};
-ghost use Rattle.exports.specs.Told.{askedRefusal, askedTold, firmNumber, gapNumbers, insideNumbers, insideTold, numbersIn, orderNumbers, orderTold, quotedRefusal};
+ghost use Rattle.exports.specs.Told.{askedRefusal, askedTold, firmNumber, gapNumbers, insideNumbers, insideTold, numbersIn, orderNumbers, orderTold};
 
 // Told are next, end, how many orders are live and insides held, the code of the last Trading Session, and of the
 // faults the first one's number, their count and the first one's reason.
@@ -178,21 +176,4 @@ pub extern "C" fn jangsebit_gap(room: &Room, window: &Window, from: u64, told: &
     let gap = session::asking::gap(room, window, from);
     told[0] = gap.start;
     told[1] = gap.count;
-}
-
-fn refusal_of(quoted: Quoted) -> u64
-    ensures { λ r. ⌜ r ≡ quotedRefusal quoted ⌝ }
-{
-    match quoted {
-        Quoted::Count(_) => 0,
-        Quoted::Refused(number) => number as u64,
-    }
-}
-
-pub fn quotes(session: Session, room: &Room, asked: &[u8], replies: &mut [u64]) -> u64
-    requires { ⌜ ((window : List ℕ) × Ruled (held session (now room) window)) ⌝ }
-    ensures refusal { λ r. ⌜ r ≡ quotedRefusal (quotedOf (length (now (asked .entry))) (length (now (replies .entry)))) ⌝ }
-    ensures replies { λ r. ⌜ now (replies .exit) ≡ quotesAfter (tablesIn session (now (room .entry))) (now (asked .entry)) (now (replies .entry)) ⌝ }
-{
-    refusal_of(session::quoting::quotes(session, room, asked, replies))
 }

@@ -31,7 +31,7 @@ ghost use Rattle.session.specs.Meaning.{feed, held, rep, tablesIn, view, Ruled,
 ghost use Rattle.book.specs.Asking.{orderAsked};
 ghost use Rattle.exports.specs.Handed.{answersBy, takenBy, takenTold};
 ghost use Rattle.session.specs.Quoting.{quotedOf, quotesAfter, refusalIn};
-ghost use Rattle.exports.specs.Told.{orderTold, quotedRefusal};
+ghost use Rattle.exports.specs.Told.{orderTold};
 
 // The version of these exports.
 #[no_mangle]
@@ -112,8 +112,8 @@ pub extern "C" fn jangsebit_quotes(
     replies: &mut [u64],
 ) -> u64
     requires { ⌜ ((window : List ℕ) × Ruled (held (now session) (now room) window)) ⌝ }
-    ensures refusal { λ r. ⌜ r ≡ quotedRefusal (quotedOf (length (now (asked .entry))) (length (now (replies .entry)))) ⌝ }
+    ensures refusal { λ r. ⌜ r ≡ quotedOf (length (now (asked .entry))) (length (now (replies .entry))) ⌝ }
     ensures replies { λ r. ⌜ now (replies .exit) ≡ quotesAfter (tablesIn (now (session .entry)) (now (room .entry))) (now (asked .entry)) (now (replies .entry)) ⌝ }
 {
-    asking::quotes(*session, room, asked, replies)
+    session_quotes::quotes(session, room, asked, replies)
 }

@@ -6,7 +6,6 @@ pub mod Engine
 pub mod Cleared
 pub mod Calls
 pub mod Answers
-pub mod Quotes
 pub mod Passes
 pub mod Given
 pub mod Demand3

@@ -11,8 +11,6 @@ use Rattle.book.specs.Tables.{Tables}
 use Rattle.book.specs.declared.asking.BestReply.{BestReply}
 use Rattle.book.specs.declared.asking.Reply.{Reply}
 use Rattle.book.specs.declared.asking.Reply.the-variants as reply
-use Rattle.session.specs.declared.quoting.Quoted.{Quoted}
-use Rattle.session.specs.declared.quoting.Quoted.the-variants.{Count, Refused}
 
 -- a question is 15 bytes, a symbol and a side; bytes behind the last whole one are not looked at
 abbrev pub countIn : List ℕ → ℕ
@@ -45,8 +43,8 @@ quotesOf t [] = []
 quotesOf t (q ∷ qs) = quoteOf t q ++ quotesOf t qs
 
 -- 11 exactly if the list is too short for the replies, nothing written; by the lengths of both lists
-unfoldable pub quotedOf : ℕ → ℕ → Quoted
-quotedOf bytes n = cond (ltb n (4 * (bytes / 15))) (Refused 11) (Count (bytes / 15))
+unfoldable pub quotedOf : ℕ → ℕ → ℕ
+quotedOf bytes n = cond (ltb n (4 * (bytes / 15))) 11 0
 
 unfoldable pub quotesAfter : Tables → List ℕ → List ℕ → List ℕ
 quotesAfter t asked replies = cond (ltb (length replies) (4 * countIn asked)) replies (splice replies 0 (quotesOf t (questionsIn asked)))

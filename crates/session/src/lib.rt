@@ -4,7 +4,6 @@ pub mod advancing;
 pub mod asking;
 pub mod packets;
 pub mod passing;
-pub mod quoting;
 pub mod running;
 pub mod settling;
 pub mod state;

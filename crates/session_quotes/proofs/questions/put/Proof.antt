@@ -9,9 +9,9 @@ use lib.ListN.{length-set}
 use Rattle.wire.specs.Number.{splice}
 use Rattle.wire.proofs.Splice.{stored-splice}
 use borrow.Author.Needs.{needs}
-use Rattle.session.proofs.quoting.put.Proof.Points as to
-use Rattle.session.proofs.quoting.put.Statement.{statement}
-use Rattle.session.proofs.quoting.put.Tie as tie
+use Rattle.session_quotes.proofs.questions.put.Proof.Points as to
+use Rattle.session_quotes.proofs.questions.put.Statement.{statement}
+use Rattle.session_quotes.proofs.questions.put.Tie as tie
 
 returns : tie.Need-returns
 returns c =

@@ -1,0 +1,2 @@
+-- Laws of the questions.
+pub mod Quests

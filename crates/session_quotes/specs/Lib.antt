@@ -1,0 +1,2 @@
+-- The definitions that the contracts of `session_quotes` cite.
+pub mod Quests
