@@ -176,22 +176,7 @@ room-of = ap (λ (h : Held). h .room)
 window-of : {one other : Held} → one ≡ other → one .window ≡ other .window
 window-of = ap (λ (h : Held). h .window)
 
--- the questions
-pub record Asking : Type 0 where
-  pub session-next-once : Once session-next.Post
-  pub session-end-once : Once session-end.Post
-  pub session-code-once : Once session-code.Post
-  pub session-faults-once : Once session-faults.Post
-  pub session-order-once : Once session-order.Post
-  pub session-best-once : Once session-best.Post
-  pub session-inside-once : Once session-inside.Post
-  pub session-gap-once : Once session-gap.Post
-
-pub asking : Asking
-asking = search once
-
--- the calls that are lent memory to write
-pub record Session-writes : Type 0 where
+pub record Sessions : Type 0 where
   pub session-open-once : Once session-open.Post
   pub session-open-room : Fixes session-open.Post (λ κs r s. now (s .1 .0))
   pub session-open-window : Fixes session-open.Post (λ κs r s. now (s .1 .1 .0))
@@ -208,11 +193,19 @@ pub record Session-writes : Type 0 where
   pub session-pass-window : (κs : _) (a : _) (one other : _) (s t : _) → session-pass.Post κs a one s → session-pass.Post κs a other t → (session : Session) → Ruled (held session (now (a .0)) (now (a .1 .0))) → now (s .1 .0) ≡ now (t .1 .0)
   pub session-quotes-once : Once session-quotes.Post
   pub session-quotes-replies : Fixes session-quotes.Post (λ κs r s. now (s .1 .1 .1 .0))
+  pub session-next-once : Once session-next.Post
+  pub session-end-once : Once session-end.Post
+  pub session-code-once : Once session-code.Post
+  pub session-faults-once : Once session-faults.Post
+  pub session-order-once : Once session-order.Post
+  pub session-best-once : Once session-best.Post
+  pub session-inside-once : Once session-inside.Post
+  pub session-gap-once : Once session-gap.Post
   pub session-requests-once : Once session-requests.Post
   pub session-requests-memory : Fixes session-requests.Post (λ κs r s. now (s .1 .1 .0))
 
-pub session-writes : Session-writes
-session-writes =
+pub sessions : Sessions
+sessions =
     record {
       session-open-once = named (λ κs a r s p. session-of (p .0));
       session-open-room = named (λ κs a r s p. room-of (p .0));
@@ -229,6 +222,14 @@ session-writes =
       session-pass-window = λ κs a one other s t p q session rule. window-of (once (p .1 .0 session rule) (q .1 .0 session rule));
       session-quotes-once = named (λ κs a r s p. p .0);
       session-quotes-replies = named (λ κs a r s p. p .1);
+      session-next-once = named (λ κs a r s p. p);
+      session-end-once = named (λ κs a r s p. p);
+      session-code-once = named (λ κs a r s p. p);
+      session-faults-once = named (λ κs a r s p. p);
+      session-order-once = named (λ κs a r s p. p);
+      session-best-once = named (λ κs a r s p. p);
+      session-inside-once = named (λ κs a r s p. p);
+      session-gap-once = named (λ κs a r s p. p);
       session-requests-once = named (λ κs a r s p. p .0);
       session-requests-memory = named (λ κs a r s p. p .1);
     }
