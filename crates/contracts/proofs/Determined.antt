@@ -67,106 +67,88 @@ use Rattle.exports.proofs.jangsebit_packets as exports-packets
 use Rattle.exports.proofs.jangsebit_order as exports-order
 use Rattle.exports.proofs.jangsebit_quotes as exports-quotes
 
--- of any two answers that a contract admits for one argument, both are the same
-abbrev Once : {K : Type 0} {A R S : K → Type 0} → ((κs : K) → A κs → R κs → S κs → Type 0) → Type 0
-Once {K} {A} {R} {S} contract = (κs : K) (a : A κs) (one other : R κs) (s t : S κs) → contract κs a one s → contract κs a other t → one ≡ other
-
 -- the one law: two answers that are both what the definition names are one
 pub once {ℓ} : {A : Type ℓ} {named one other : A} → one ≡ named → other ≡ named → one ≡ other
 once e f = e ∙ sym f
 
+-- of any two outcomes that a contract admits for one argument, this part is the same
+abbrev Fixes : {K : Type 0} {A R S T : K → Type 0} → ((κs : K) → A κs → R κs → S κs → Type 0) → ((κs : K) → R κs → S κs → T κs) → Type 0
+Fixes {K} {A} {R} {S} contract part = (κs : K) (a : A κs) (one other : R κs) (s t : S κs) → contract κs a one s → contract κs a other t → part κs one s ≡ part κs other t
+
+-- the answer itself is the same
+abbrev Once : {K : Type 0} {A R S : K → Type 0} → ((κs : K) → A κs → R κs → S κs → Type 0) → Type 0
+Once contract = Fixes contract (λ κs r s. r)
+
+-- a part for which the contract names a value
+named : {K : Type 0} {A R S T : K → Type 0} {contract : (κs : K) → A κs → R κs → S κs → Type 0} {part : (κs : K) → R κs → S κs → T κs} {name : (κs : K) → A κs → T κs} → ((κs : K) (a : A κs) (r : R κs) (s : S κs) → contract κs a r s → part κs r s ≡ name κs a) → Fixes contract part
+named tells κs a one other s t p q = once (tells κs a one s p) (tells κs a other t q)
+
 -- ---- fields
 
-pub fields-value-once : Once fields-value.Post
-fields-value-once κs a one other s t = once
+pub record Fields : Type 0 where
+  pub fields-value-once : Once fields-value.Post
+  pub fields-good-id-once : Once fields-good-id.Post
+  pub fields-good-symbol-once : Once fields-good-symbol.Post
+  pub fields-good-side-once : Once fields-good-side.Post
+  pub fields-good-trade-side-once : Once fields-good-trade-side.Post
+  pub fields-good-quantity-once : Once fields-good-quantity.Post
+  pub fields-good-price-once : Once fields-good-price.Post
+  pub fields-good-inside-price-once : Once fields-good-inside-price.Post
+  pub fields-good-unsolicited-once : Once fields-good-unsolicited.Post
+  pub fields-good-session-once : Once fields-good-session.Post
 
-pub fields-good-id-once : Once fields-good-id.Post
-fields-good-id-once κs a one other s t = once
+pub fields : Fields
+fields = search once
 
-pub fields-good-symbol-once : Once fields-good-symbol.Post
-fields-good-symbol-once κs a one other s t = once
+-- ---- message, writing, packet
 
-pub fields-good-side-once : Once fields-good-side.Post
-fields-good-side-once κs a one other s t = once
+pub record Messages : Type 0 where
+  pub message-read-once : Once message-read.Post
+  pub writing-write-once : Once writing-write.Post
+  pub writing-write-memory : Fixes writing-write.Post (λ κs r s. now (s .1 .0))
+  pub packet-write-header-once : Once packet-write-header.Post
+  pub packet-write-header-memory : Fixes packet-write-header.Post (λ κs r s. now (s .1 .0))
+  pub packet-read-header-once : Once packet-read-header.Post
+  pub packet-judge-once : Once packet-judge.Post
 
-pub fields-good-trade-side-once : Once fields-good-trade-side.Post
-fields-good-trade-side-once κs a one other s t = once
-
-pub fields-good-quantity-once : Once fields-good-quantity.Post
-fields-good-quantity-once κs a one other s t = once
-
-pub fields-good-price-once : Once fields-good-price.Post
-fields-good-price-once κs a one other s t = once
-
-pub fields-good-inside-price-once : Once fields-good-inside-price.Post
-fields-good-inside-price-once κs a one other s t = once
-
-pub fields-good-unsolicited-once : Once fields-good-unsolicited.Post
-fields-good-unsolicited-once κs a one other s t = once
-
-pub fields-good-session-once : Once fields-good-session.Post
-fields-good-session-once κs a one other s t = once
-
--- ---- message
-
-pub message-read-once : Once message-read.Post
-message-read-once κs a one other s t = once
-
--- ---- writing
-
-pub writing-write-once : Once writing-write.Post
-writing-write-once κs a one other s t p q = once (p .0) (q .0)
-
-pub writing-write-memory : (κs : _) (a : _) (one other : _) (s t : _) → writing-write.Post κs a one s → writing-write.Post κs a other t → now (s .1 .0) ≡ now (t .1 .0)
-writing-write-memory κs a one other s t p q = once (p .1) (q .1)
-
--- ---- packet
-
-pub packet-write-header-once : Once packet-write-header.Post
-packet-write-header-once κs a one other s t p q = once (p .0) (q .0)
-
-pub packet-write-header-memory : (κs : _) (a : _) (one other : _) (s t : _) → packet-write-header.Post κs a one s → packet-write-header.Post κs a other t → now (s .1 .0) ≡ now (t .1 .0)
-packet-write-header-memory κs a one other s t p q = once (p .1) (q .1)
-
-pub packet-read-header-once : Once packet-read-header.Post
-packet-read-header-once κs a one other s t = once
-
-pub packet-judge-once : Once packet-judge.Post
-packet-judge-once κs a one other s t = once
+pub messages : Messages
+messages =
+    record {
+      message-read-once = named (λ κs a r s p. p);
+      writing-write-once = named (λ κs a r s p. p .0);
+      writing-write-memory = named (λ κs a r s p. p .1);
+      packet-write-header-once = named (λ κs a r s p. p .0);
+      packet-write-header-memory = named (λ κs a r s p. p .1);
+      packet-read-header-once = named (λ κs a r s p. p);
+      packet-judge-once = named (λ κs a r s p. p);
+    }
 
 -- ---- reader
 
-pub reader-judge-once : Once reader-judge.Post
-reader-judge-once κs a one other s t = once
+pub record Reader : Type 0 where
+  pub reader-judge-once : Once reader-judge.Post
+  pub reader-frame-of-once : Once reader-frame-of.Post
+  pub reader-opened-once : Once reader-opened.Post
+  pub reader-refused-once : Once reader-refused.Post
+  pub reader-stepped-once : Once reader-stepped.Post
+  -- where the part lies and what it holds; the loan's own name is the checker's matter
+  pub reader-message-of-once : Fixes reader-message-of.Post (λ κs r s. lent r)
 
-pub reader-frame-of-once : Once reader-frame-of.Post
-reader-frame-of-once κs a one other s t = once
-
-pub reader-opened-once : Once reader-opened.Post
-reader-opened-once κs a one other s t = once
-
-pub reader-refused-once : Once reader-refused.Post
-reader-refused-once κs a one other s t = once
-
-pub reader-stepped-once : Once reader-stepped.Post
-reader-stepped-once κs a one other s t = once
-
--- where the part lies and what it holds; the loan's own name is the checker's matter
-pub reader-message-of-once : (κs : _) (a : _) (one other : _) (s t : _) → reader-message-of.Post κs a one s → reader-message-of.Post κs a other t → lent one ≡ lent other
-reader-message-of-once κs a one other s t = once
+pub reader : Reader
+reader = search once
 
 -- The walks by hand have no `Post`. In its place stands what their one clause tells, at every model of the logic.
 abbrev Told : ((w : World) → Pr w) → Type 2
 Told clause = Read (λ w. emp (w .𝓤)) no-know clause
 
 abbrev open-told : (κs : _) (packet : _) (both : _) (r : _) → Told (λ w. reader-open.ensures-1 (w .𝓤) (w .H) κs (w .𝓖 .A) (w .𝓜 .mem) (w .𝓡 .run) packet both r)
-open-told κs packet both r = all-models (λ w. reader-open.ensures-1 (w .𝓤) (w .H) κs (w .𝓖 .A) (w .𝓜 .mem) (w .𝓡 .run) packet both r) (λ w. r-last _) (λ w. refl) (λ w. refl) (λ w. refl)
+open-told κs packet both r = all-models _ (λ w. r-last _) (λ w. refl) (λ w. refl) (λ w. refl)
 
 abbrev refusal-told : (κs : _) (reader : _) (both : _) (r : _) → Told (λ w. reader-refusal.ensures-1 (w .𝓤) (w .H) κs (w .𝓖 .A) (w .𝓜 .mem) (w .𝓡 .run) reader both r)
-refusal-told κs reader both r = all-models (λ w. reader-refusal.ensures-1 (w .𝓤) (w .H) κs (w .𝓖 .A) (w .𝓜 .mem) (w .𝓡 .run) reader both r) (λ w. r-last _) (λ w. refl) (λ w. refl) (λ w. refl)
+refusal-told κs reader both r = all-models _ (λ w. r-last _) (λ w. refl) (λ w. refl) (λ w. refl)
 
 abbrev step-told : (κs : _) (reader : _) (both : _) (r : _) → Told (λ w. reader-step.ensures-1 (w .𝓤) (w .H) κs (w .𝓖 .A) (w .𝓜 .mem) (w .𝓡 .run) reader both r)
-step-told κs reader both r = all-models (λ w. reader-step.ensures-1 (w .𝓤) (w .H) κs (w .𝓖 .A) (w .𝓜 .mem) (w .𝓡 .run) reader both r) (λ w. r-last _) (λ w. refl) (λ w. refl) (λ w. refl)
+step-told κs reader both r = all-models _ (λ w. r-last _) (λ w. refl) (λ w. refl) (λ w. refl)
 
 pub reader-open-once : (κs : _) (packet : _) (both : _) (one other : _) → AllOf (open-told κs packet both one .tells) → AllOf (open-told κs packet both other .tells) → one ≡ other
 reader-open-once κs packet both one other = once
@@ -194,190 +176,152 @@ room-of = ap (λ (h : Held). h .room)
 window-of : {one other : Held} → one ≡ other → one .window ≡ other .window
 window-of = ap (λ (h : Held). h .window)
 
-pub session-open-once : Once session-open.Post
-session-open-once κs a one other s t p q = session-of (once (p .0) (q .0))
+pub record Sessions : Type 0 where
+  pub session-open-once : Once session-open.Post
+  pub session-open-room : Fixes session-open.Post (λ κs r s. now (s .1 .0))
+  pub session-open-window : Fixes session-open.Post (λ κs r s. now (s .1 .1 .0))
+  pub session-take-once : Once session-take.Post
+  pub session-take-room : Fixes session-take.Post (λ κs r s. now (s .1 .0))
+  pub session-take-window : Fixes session-take.Post (λ κs r s. now (s .1 .1 .0))
+  pub session-burst-once : Once session-burst.Post
+  pub session-burst-room : Fixes session-burst.Post (λ κs r s. now (s .1 .0))
+  pub session-burst-window : Fixes session-burst.Post (λ κs r s. now (s .1 .1 .0))
+  pub session-burst-answers : Fixes session-burst.Post (λ κs r s. now (s .1 .1 .1 .1 .1 .0))
+  pub session-pass-once : Once session-pass.Post
+  -- with whatever session it is held
+  pub session-pass-room : (κs : _) (a : _) (one other : _) (s t : _) → session-pass.Post κs a one s → session-pass.Post κs a other t → (session : Session) → Ruled (held session (now (a .0)) (now (a .1 .0))) → now (s .0) ≡ now (t .0)
+  pub session-pass-window : (κs : _) (a : _) (one other : _) (s t : _) → session-pass.Post κs a one s → session-pass.Post κs a other t → (session : Session) → Ruled (held session (now (a .0)) (now (a .1 .0))) → now (s .1 .0) ≡ now (t .1 .0)
+  pub session-quotes-once : Once session-quotes.Post
+  pub session-quotes-replies : Fixes session-quotes.Post (λ κs r s. now (s .1 .1 .1 .0))
+  pub session-next-once : Once session-next.Post
+  pub session-end-once : Once session-end.Post
+  pub session-code-once : Once session-code.Post
+  pub session-faults-once : Once session-faults.Post
+  pub session-order-once : Once session-order.Post
+  pub session-best-once : Once session-best.Post
+  pub session-inside-once : Once session-inside.Post
+  pub session-gap-once : Once session-gap.Post
+  pub session-requests-once : Once session-requests.Post
+  pub session-requests-memory : Fixes session-requests.Post (λ κs r s. now (s .1 .1 .0))
 
-pub session-open-room : (κs : _) (a : _) (one other : _) (s t : _) → session-open.Post κs a one s → session-open.Post κs a other t → now (s .1 .0) ≡ now (t .1 .0)
-session-open-room κs a one other s t p q = room-of (once (p .0) (q .0))
-
-pub session-open-window : (κs : _) (a : _) (one other : _) (s t : _) → session-open.Post κs a one s → session-open.Post κs a other t → now (s .1 .1 .0) ≡ now (t .1 .1 .0)
-session-open-window κs a one other s t p q = window-of (once (p .0) (q .0))
-
-pub session-take-once : Once session-take.Post
-session-take-once κs a one other s t p q = λ i. record { session = session-of (once (p .0) (q .0)) i; answer = once (p .1 .0) (q .1 .0) i }
-
-pub session-take-room : (κs : _) (a : _) (one other : _) (s t : _) → session-take.Post κs a one s → session-take.Post κs a other t → now (s .1 .0) ≡ now (t .1 .0)
-session-take-room κs a one other s t p q = room-of (once (p .0) (q .0))
-
-pub session-take-window : (κs : _) (a : _) (one other : _) (s t : _) → session-take.Post κs a one s → session-take.Post κs a other t → now (s .1 .1 .0) ≡ now (t .1 .1 .0)
-session-take-window κs a one other s t p q = window-of (once (p .0) (q .0))
-
-pub session-burst-once : Once session-burst.Post
-session-burst-once κs a one other s t p q = λ i. record { session = session-of (once (p .0) (q .0)) i; count = once (p .1 .0) (q .1 .0) i; bytes = once (p .1 .1 .0) (q .1 .1 .0) i }
-
-pub session-burst-room : (κs : _) (a : _) (one other : _) (s t : _) → session-burst.Post κs a one s → session-burst.Post κs a other t → now (s .1 .0) ≡ now (t .1 .0)
-session-burst-room κs a one other s t p q = room-of (once (p .0) (q .0))
-
-pub session-burst-window : (κs : _) (a : _) (one other : _) (s t : _) → session-burst.Post κs a one s → session-burst.Post κs a other t → now (s .1 .1 .0) ≡ now (t .1 .1 .0)
-session-burst-window κs a one other s t p q = window-of (once (p .0) (q .0))
-
-pub session-burst-answers : (κs : _) (a : _) (one other : _) (s t : _) → session-burst.Post κs a one s → session-burst.Post κs a other t → now (s .1 .1 .1 .1 .1 .0) ≡ now (t .1 .1 .1 .1 .1 .0)
-session-burst-answers κs a one other s t p q = once (p .1 .1 .1 .0) (q .1 .1 .1 .0)
-
-pub session-pass-once : Once session-pass.Post
-session-pass-once κs a one other s t p q = once (p .0) (q .0)
-
--- the memory that it is lent, with whatever session it is held
-pub session-pass-room : (κs : _) (a : _) (one other : _) (s t : _) → session-pass.Post κs a one s → session-pass.Post κs a other t → (session : Session) → Ruled (held session (now (a .0)) (now (a .1 .0))) → now (s .0) ≡ now (t .0)
-session-pass-room κs a one other s t p q session rule = room-of (once (p .1 .0 session rule) (q .1 .0 session rule))
-
-pub session-pass-window : (κs : _) (a : _) (one other : _) (s t : _) → session-pass.Post κs a one s → session-pass.Post κs a other t → (session : Session) → Ruled (held session (now (a .0)) (now (a .1 .0))) → now (s .1 .0) ≡ now (t .1 .0)
-session-pass-window κs a one other s t p q session rule = window-of (once (p .1 .0 session rule) (q .1 .0 session rule))
-
-pub session-quotes-once : Once session-quotes.Post
-session-quotes-once κs a one other s t p q = once (p .0) (q .0)
-
-pub session-quotes-replies : (κs : _) (a : _) (one other : _) (s t : _) → session-quotes.Post κs a one s → session-quotes.Post κs a other t → now (s .1 .1 .1 .0) ≡ now (t .1 .1 .1 .0)
-session-quotes-replies κs a one other s t p q = once (p .1) (q .1)
-
-pub session-next-once : Once session-next.Post
-session-next-once κs a one other s t = once
-
-pub session-end-once : Once session-end.Post
-session-end-once κs a one other s t = once
-
-pub session-code-once : Once session-code.Post
-session-code-once κs a one other s t = once
-
-pub session-faults-once : Once session-faults.Post
-session-faults-once κs a one other s t = once
-
-pub session-order-once : Once session-order.Post
-session-order-once κs a one other s t = once
-
-pub session-best-once : Once session-best.Post
-session-best-once κs a one other s t = once
-
-pub session-inside-once : Once session-inside.Post
-session-inside-once κs a one other s t = once
-
-pub session-gap-once : Once session-gap.Post
-session-gap-once κs a one other s t = once
-
-pub session-requests-once : Once session-requests.Post
-session-requests-once κs a one other s t p q = once (p .0) (q .0)
-
-pub session-requests-memory : (κs : _) (a : _) (one other : _) (s t : _) → session-requests.Post κs a one s → session-requests.Post κs a other t → now (s .1 .1 .0) ≡ now (t .1 .1 .0)
-session-requests-memory κs a one other s t p q = once (p .1) (q .1)
+pub sessions : Sessions
+sessions =
+    record {
+      session-open-once = named (λ κs a r s p. session-of (p .0));
+      session-open-room = named (λ κs a r s p. room-of (p .0));
+      session-open-window = named (λ κs a r s p. window-of (p .0));
+      session-take-once = λ κs a one other s t p q. λ i. record { session = session-of (once (p .0) (q .0)) i; answer = once (p .1 .0) (q .1 .0) i };
+      session-take-room = named (λ κs a r s p. room-of (p .0));
+      session-take-window = named (λ κs a r s p. window-of (p .0));
+      session-burst-once = λ κs a one other s t p q. λ i. record { session = session-of (once (p .0) (q .0)) i; count = once (p .1 .0) (q .1 .0) i; bytes = once (p .1 .1 .0) (q .1 .1 .0) i };
+      session-burst-room = named (λ κs a r s p. room-of (p .0));
+      session-burst-window = named (λ κs a r s p. window-of (p .0));
+      session-burst-answers = named (λ κs a r s p. p .1 .1 .1 .0);
+      session-pass-once = named (λ κs a r s p. p .0);
+      session-pass-room = λ κs a one other s t p q session rule. room-of (once (p .1 .0 session rule) (q .1 .0 session rule));
+      session-pass-window = λ κs a one other s t p q session rule. window-of (once (p .1 .0 session rule) (q .1 .0 session rule));
+      session-quotes-once = named (λ κs a r s p. p .0);
+      session-quotes-replies = named (λ κs a r s p. p .1);
+      session-next-once = named (λ κs a r s p. p);
+      session-end-once = named (λ κs a r s p. p);
+      session-code-once = named (λ κs a r s p. p);
+      session-faults-once = named (λ κs a r s p. p);
+      session-order-once = named (λ κs a r s p. p);
+      session-best-once = named (λ κs a r s p. p);
+      session-inside-once = named (λ κs a r s p. p);
+      session-gap-once = named (λ κs a r s p. p);
+      session-requests-once = named (λ κs a r s p. p .0);
+      session-requests-memory = named (λ κs a r s p. p .1);
+    }
 
 -- ---- exports, the answer of each and all that it is lent to write
 
-pub exports-value-once : Once exports-value.Post
-exports-value-once κs a one other s t p q = once (p .0) (q .0)
+pub record Exports : Type 0 where
+  pub exports-value-once : Once exports-value.Post
+  pub exports-value-told : Fixes exports-value.Post (λ κs r s. now (s .1 .0))
+  pub exports-header-once : Once exports-header.Post
+  pub exports-header-told : Fixes exports-header.Post (λ κs r s. now (s .1 .0))
+  pub exports-write-header-once : Once exports-write-header.Post
+  pub exports-write-header-buffer : Fixes exports-write-header.Post (λ κs r s. now (s .1 .1 .1 .1 .1 .0))
+  pub exports-judge-once : Once exports-judge.Post
+  pub exports-judge-told : Fixes exports-judge.Post (λ κs r s. now (s .1 .0))
+  pub exports-walk-once : Once exports-walk.Post
+  pub exports-walk-places : Fixes exports-walk.Post (λ κs r s. now (s .1 .0))
+  pub exports-walk-told : Fixes exports-walk.Post (λ κs r s. now (s .1 .1 .0))
+  pub exports-message-once : Once exports-message.Post
+  pub exports-message-told : Fixes exports-message.Post (λ κs r s. now (s .1 .0))
+  pub exports-write-message-once : Once exports-write-message.Post
+  pub exports-write-message-buffer : Fixes exports-write-message.Post (λ κs r s. now (s .1 .0))
+  pub exports-write-message-told : Fixes exports-write-message.Post (λ κs r s. now (s .1 .1 .1 .0))
+  pub exports-sizes-told : Fixes exports-sizes.Post (λ κs r s. now (s .0))
+  pub exports-numbers-told : Fixes exports-numbers.Post (λ κs r s. now (s .1 .0))
+  pub exports-inside-once : Once exports-inside.Post
+  pub exports-inside-told : Fixes exports-inside.Post (λ κs r s. now (s .1 .1 .0))
+  pub exports-requests-once : Once exports-requests.Post
+  pub exports-requests-buffer : Fixes exports-requests.Post (λ κs r s. now (s .1 .1 .0))
+  pub exports-requests-told : Fixes exports-requests.Post (λ κs r s. now (s .1 .1 .1 .0))
+  pub exports-gap-told : Fixes exports-gap.Post (λ κs r s. now (s .1 .1 .1 .0))
+  pub exports-pass-told : Fixes exports-pass.Post (λ κs r s. now (s .1 .1 .1 .0))
+  pub exports-pass-room : (κs : _) (a : _) (one other : _) (s t : _) → exports-pass.Post κs a one s → exports-pass.Post κs a other t → (session : Session) → Ruled (held session (now (a .0)) (now (a .1 .0))) → now (s .0) ≡ now (t .0)
+  pub exports-pass-window : (κs : _) (a : _) (one other : _) (s t : _) → exports-pass.Post κs a one s → exports-pass.Post κs a other t → (session : Session) → Ruled (held session (now (a .0)) (now (a .1 .0))) → now (s .1 .0) ≡ now (t .1 .0)
 
-pub exports-value-told : (κs : _) (a : _) (one other : _) (s t : _) → exports-value.Post κs a one s → exports-value.Post κs a other t → now (s .1 .0) ≡ now (t .1 .0)
-exports-value-told κs a one other s t p q = once (p .1) (q .1)
-
-pub exports-header-once : Once exports-header.Post
-exports-header-once κs a one other s t p q = once (p .0) (q .0)
-
-pub exports-header-told : (κs : _) (a : _) (one other : _) (s t : _) → exports-header.Post κs a one s → exports-header.Post κs a other t → now (s .1 .0) ≡ now (t .1 .0)
-exports-header-told κs a one other s t p q = once (p .1) (q .1)
-
-pub exports-write-header-once : Once exports-write-header.Post
-exports-write-header-once κs a one other s t p q = once (p .0) (q .0)
-
-pub exports-write-header-buffer : (κs : _) (a : _) (one other : _) (s t : _) → exports-write-header.Post κs a one s → exports-write-header.Post κs a other t → now (s .1 .1 .1 .1 .1 .0) ≡ now (t .1 .1 .1 .1 .1 .0)
-exports-write-header-buffer κs a one other s t p q = once (p .1) (q .1)
-
-pub exports-judge-once : Once exports-judge.Post
-exports-judge-once κs a one other s t p q = once (p .0) (q .0)
-
-pub exports-judge-told : (κs : _) (a : _) (one other : _) (s t : _) → exports-judge.Post κs a one s → exports-judge.Post κs a other t → now (s .1 .0) ≡ now (t .1 .0)
-exports-judge-told κs a one other s t p q = once (p .1) (q .1)
-
-pub exports-walk-once : Once exports-walk.Post
-exports-walk-once κs a one other s t p q = once (p .0) (q .0)
-
-pub exports-walk-places : (κs : _) (a : _) (one other : _) (s t : _) → exports-walk.Post κs a one s → exports-walk.Post κs a other t → now (s .1 .0) ≡ now (t .1 .0)
-exports-walk-places κs a one other s t p q = once (p .1 .0) (q .1 .0)
-
-pub exports-walk-told : (κs : _) (a : _) (one other : _) (s t : _) → exports-walk.Post κs a one s → exports-walk.Post κs a other t → now (s .1 .1 .0) ≡ now (t .1 .1 .0)
-exports-walk-told κs a one other s t p q = once (p .1 .1) (q .1 .1)
-
-pub exports-message-once : Once exports-message.Post
-exports-message-once κs a one other s t p q = once (p .0) (q .0)
-
-pub exports-message-told : (κs : _) (a : _) (one other : _) (s t : _) → exports-message.Post κs a one s → exports-message.Post κs a other t → now (s .1 .0) ≡ now (t .1 .0)
-exports-message-told κs a one other s t p q = once (p .1) (q .1)
-
-pub exports-write-message-once : Once exports-write-message.Post
-exports-write-message-once κs a one other s t p q = once (p .0) (q .0)
-
-pub exports-write-message-buffer : (κs : _) (a : _) (one other : _) (s t : _) → exports-write-message.Post κs a one s → exports-write-message.Post κs a other t → now (s .1 .0) ≡ now (t .1 .0)
-exports-write-message-buffer κs a one other s t p q = once (p .1 .0) (q .1 .0)
-
-pub exports-write-message-told : (κs : _) (a : _) (one other : _) (s t : _) → exports-write-message.Post κs a one s → exports-write-message.Post κs a other t → now (s .1 .1 .1 .0) ≡ now (t .1 .1 .1 .0)
-exports-write-message-told κs a one other s t p q = once (p .1 .1) (q .1 .1)
-
-pub exports-sizes-told : (κs : _) (a : _) (one other : _) (s t : _) → exports-sizes.Post κs a one s → exports-sizes.Post κs a other t → now (s .0) ≡ now (t .0)
-exports-sizes-told κs a one other s t p q = once (p) (q)
-
-pub exports-numbers-told : (κs : _) (a : _) (one other : _) (s t : _) → exports-numbers.Post κs a one s → exports-numbers.Post κs a other t → now (s .1 .0) ≡ now (t .1 .0)
-exports-numbers-told κs a one other s t p q = once (p) (q)
-
-pub exports-inside-once : Once exports-inside.Post
-exports-inside-once κs a one other s t p q = once (p .0) (q .0)
-
-pub exports-inside-told : (κs : _) (a : _) (one other : _) (s t : _) → exports-inside.Post κs a one s → exports-inside.Post κs a other t → now (s .1 .1 .0) ≡ now (t .1 .1 .0)
-exports-inside-told κs a one other s t p q = once (p .1) (q .1)
-
-pub exports-requests-once : Once exports-requests.Post
-exports-requests-once κs a one other s t p q = once (p .0) (q .0)
-
-pub exports-requests-buffer : (κs : _) (a : _) (one other : _) (s t : _) → exports-requests.Post κs a one s → exports-requests.Post κs a other t → now (s .1 .1 .0) ≡ now (t .1 .1 .0)
-exports-requests-buffer κs a one other s t p q = once (p .1 .0) (q .1 .0)
-
-pub exports-requests-told : (κs : _) (a : _) (one other : _) (s t : _) → exports-requests.Post κs a one s → exports-requests.Post κs a other t → now (s .1 .1 .1 .0) ≡ now (t .1 .1 .1 .0)
-exports-requests-told κs a one other s t p q = once (p .1 .1) (q .1 .1)
-
-pub exports-gap-told : (κs : _) (a : _) (one other : _) (s t : _) → exports-gap.Post κs a one s → exports-gap.Post κs a other t → now (s .1 .1 .1 .0) ≡ now (t .1 .1 .1 .0)
-exports-gap-told κs a one other s t p q = once (p) (q)
-
-pub exports-pass-told : (κs : _) (a : _) (one other : _) (s t : _) → exports-pass.Post κs a one s → exports-pass.Post κs a other t → now (s .1 .1 .1 .0) ≡ now (t .1 .1 .1 .0)
-exports-pass-told κs a one other s t p q = once (p .0) (q .0)
-
-pub exports-pass-room : (κs : _) (a : _) (one other : _) (s t : _) → exports-pass.Post κs a one s → exports-pass.Post κs a other t → (session : Session) → Ruled (held session (now (a .0)) (now (a .1 .0))) → now (s .0) ≡ now (t .0)
-exports-pass-room κs a one other s t p q session rule = room-of (once (p .1 .0 session rule) (q .1 .0 session rule))
-
-pub exports-pass-window : (κs : _) (a : _) (one other : _) (s t : _) → exports-pass.Post κs a one s → exports-pass.Post κs a other t → (session : Session) → Ruled (held session (now (a .0)) (now (a .1 .0))) → now (s .1 .0) ≡ now (t .1 .0)
-exports-pass-window κs a one other s t p q session rule = window-of (once (p .1 .0 session rule) (q .1 .0 session rule))
+pub exports : Exports
+exports =
+    record {
+      exports-value-once = named (λ κs a r s p. p .0);
+      exports-value-told = named (λ κs a r s p. p .1);
+      exports-header-once = named (λ κs a r s p. p .0);
+      exports-header-told = named (λ κs a r s p. p .1);
+      exports-write-header-once = named (λ κs a r s p. p .0);
+      exports-write-header-buffer = named (λ κs a r s p. p .1);
+      exports-judge-once = named (λ κs a r s p. p .0);
+      exports-judge-told = named (λ κs a r s p. p .1);
+      exports-walk-once = named (λ κs a r s p. p .0);
+      exports-walk-places = named (λ κs a r s p. p .1 .0);
+      exports-walk-told = named (λ κs a r s p. p .1 .1);
+      exports-message-once = named (λ κs a r s p. p .0);
+      exports-message-told = named (λ κs a r s p. p .1);
+      exports-write-message-once = named (λ κs a r s p. p .0);
+      exports-write-message-buffer = named (λ κs a r s p. p .1 .0);
+      exports-write-message-told = named (λ κs a r s p. p .1 .1);
+      exports-sizes-told = named (λ κs a r s p. p);
+      exports-numbers-told = named (λ κs a r s p. p);
+      exports-inside-once = named (λ κs a r s p. p .0);
+      exports-inside-told = named (λ κs a r s p. p .1);
+      exports-requests-once = named (λ κs a r s p. p .0);
+      exports-requests-buffer = named (λ κs a r s p. p .1 .0);
+      exports-requests-told = named (λ κs a r s p. p .1 .1);
+      exports-gap-told = named (λ κs a r s p. p);
+      exports-pass-told = named (λ κs a r s p. p .0);
+      exports-pass-room = λ κs a one other s t p q session rule. room-of (once (p .1 .0 session rule) (q .1 .0 session rule));
+      exports-pass-window = λ κs a one other s t p q session rule. window-of (once (p .1 .0 session rule) (q .1 .0 session rule));
+    }
 
 -- the four that are lent the orders: their walks are by hand, and their clauses are told as the reader's are
 
 abbrev order-refusal : (κs : _) (session : _) (room : _) (id : _) (told : _) (session′ : _) (room′ : _) (id′ : _) (told′ : _) (r : _) → Told (λ w. exports-order.ensures-refusal (w .𝓤) (w .H) κs (w .𝓖 .A) (w .𝓜 .mem) (w .𝓡 .run) session room id told session′ room′ id′ told′ r)
-order-refusal κs session room id told session′ room′ id′ told′ r = all-models (λ w. exports-order.ensures-refusal (w .𝓤) (w .H) κs (w .𝓖 .A) (w .𝓜 .mem) (w .𝓡 .run) session room id told session′ room′ id′ told′ r) (λ w. r-last _) (λ w. refl) (λ w. refl) (λ w. refl)
+order-refusal κs session room id told session′ room′ id′ told′ r = all-models _ (λ w. r-last _) (λ w. refl) (λ w. refl) (λ w. refl)
 
 abbrev order-told : (κs : _) (session : _) (room : _) (id : _) (told : _) (session′ : _) (room′ : _) (id′ : _) (told′ : _) (r : _) → Told (λ w. exports-order.ensures-told (w .𝓤) (w .H) κs (w .𝓖 .A) (w .𝓜 .mem) (w .𝓡 .run) session room id told session′ room′ id′ told′ r)
-order-told κs session room id told session′ room′ id′ told′ r = all-models (λ w. exports-order.ensures-told (w .𝓤) (w .H) κs (w .𝓖 .A) (w .𝓜 .mem) (w .𝓡 .run) session room id told session′ room′ id′ told′ r) (λ w. r-last _) (λ w. refl) (λ w. refl) (λ w. refl)
+order-told κs session room id told session′ room′ id′ told′ r = all-models _ (λ w. r-last _) (λ w. refl) (λ w. refl) (λ w. refl)
 
 abbrev quotes-refusal : (κs : _) (session : _) (room : _) (asked : _) (replies : _) (session′ : _) (room′ : _) (asked′ : _) (replies′ : _) (r : _) → Told (λ w. exports-quotes.ensures-refusal (w .𝓤) (w .H) κs (w .𝓖 .A) (w .𝓜 .mem) (w .𝓡 .run) session room asked replies session′ room′ asked′ replies′ r)
-quotes-refusal κs session room asked replies session′ room′ asked′ replies′ r = all-models (λ w. exports-quotes.ensures-refusal (w .𝓤) (w .H) κs (w .𝓖 .A) (w .𝓜 .mem) (w .𝓡 .run) session room asked replies session′ room′ asked′ replies′ r) (λ w. r-last _) (λ w. refl) (λ w. refl) (λ w. refl)
+quotes-refusal κs session room asked replies session′ room′ asked′ replies′ r = all-models _ (λ w. r-last _) (λ w. refl) (λ w. refl) (λ w. refl)
 
 abbrev quotes-replies : (κs : _) (session : _) (room : _) (asked : _) (replies : _) (session′ : _) (room′ : _) (asked′ : _) (replies′ : _) (r : _) → Told (λ w. exports-quotes.ensures-replies (w .𝓤) (w .H) κs (w .𝓖 .A) (w .𝓜 .mem) (w .𝓡 .run) session room asked replies session′ room′ asked′ replies′ r)
-quotes-replies κs session room asked replies session′ room′ asked′ replies′ r = all-models (λ w. exports-quotes.ensures-replies (w .𝓤) (w .H) κs (w .𝓖 .A) (w .𝓜 .mem) (w .𝓡 .run) session room asked replies session′ room′ asked′ replies′ r) (λ w. r-last _) (λ w. refl) (λ w. refl) (λ w. refl)
+quotes-replies κs session room asked replies session′ room′ asked′ replies′ r = all-models _ (λ w. r-last _) (λ w. refl) (λ w. refl) (λ w. refl)
 
 abbrev open-held : (κs : _) (session : _) (room : _) (window : _) (number : _) (session′ : _) (room′ : _) (window′ : _) (number′ : _) (r : _) → Told (λ w. exports-open.ensures-opened (w .𝓤) (w .H) κs (w .𝓖 .A) (w .𝓜 .mem) (w .𝓡 .run) session room window number session′ room′ window′ number′ r)
-open-held κs session room window number session′ room′ window′ number′ r = all-models (λ w. exports-open.ensures-opened (w .𝓤) (w .H) κs (w .𝓖 .A) (w .𝓜 .mem) (w .𝓡 .run) session room window number session′ room′ window′ number′ r) (λ w. r-last _) (λ w. refl) (λ w. refl) (λ w. refl)
+open-held κs session room window number session′ room′ window′ number′ r = all-models _ (λ w. r-last _) (λ w. refl) (λ w. refl) (λ w. refl)
 
 abbrev packets-held : (κs : _) (session : _) (room : _) (window : _) (packets : _) (single : _) (count : _) (answers : _) (told : _) (session′ : _) (room′ : _) (window′ : _) (packets′ : _) (single′ : _) (count′ : _) (answers′ : _) (told′ : _) (r : _) → Told (λ w. exports-packets.ensures-taken (w .𝓤) (w .H) κs (w .𝓖 .A) (w .𝓜 .mem) (w .𝓡 .run) session room window packets single count answers told session′ room′ window′ packets′ single′ count′ answers′ told′ r)
-packets-held κs session room window packets single count answers told session′ room′ window′ packets′ single′ count′ answers′ told′ r = all-models (λ w. exports-packets.ensures-taken (w .𝓤) (w .H) κs (w .𝓖 .A) (w .𝓜 .mem) (w .𝓡 .run) session room window packets single count answers told session′ room′ window′ packets′ single′ count′ answers′ told′ r) (λ w. r-last _) (λ w. refl) (λ w. refl) (λ w. refl)
+packets-held κs session room window packets single count answers told session′ room′ window′ packets′ single′ count′ answers′ told′ r = all-models _ (λ w. r-last _) (λ w. refl) (λ w. refl) (λ w. refl)
 
 abbrev packets-answers : (κs : _) (session : _) (room : _) (window : _) (packets : _) (single : _) (count : _) (answers : _) (told : _) (session′ : _) (room′ : _) (window′ : _) (packets′ : _) (single′ : _) (count′ : _) (answers′ : _) (told′ : _) (r : _) → Told (λ w. exports-packets.ensures-answers (w .𝓤) (w .H) κs (w .𝓖 .A) (w .𝓜 .mem) (w .𝓡 .run) session room window packets single count answers told session′ room′ window′ packets′ single′ count′ answers′ told′ r)
-packets-answers κs session room window packets single count answers told session′ room′ window′ packets′ single′ count′ answers′ told′ r = all-models (λ w. exports-packets.ensures-answers (w .𝓤) (w .H) κs (w .𝓖 .A) (w .𝓜 .mem) (w .𝓡 .run) session room window packets single count answers told session′ room′ window′ packets′ single′ count′ answers′ told′ r) (λ w. r-last _) (λ w. refl) (λ w. refl) (λ w. refl)
+packets-answers κs session room window packets single count answers told session′ room′ window′ packets′ single′ count′ answers′ told′ r = all-models _ (λ w. r-last _) (λ w. refl) (λ w. refl) (λ w. refl)
 
 abbrev packets-told : (κs : _) (session : _) (room : _) (window : _) (packets : _) (single : _) (count : _) (answers : _) (told : _) (session′ : _) (room′ : _) (window′ : _) (packets′ : _) (single′ : _) (count′ : _) (answers′ : _) (told′ : _) (r : _) → Told (λ w. exports-packets.ensures-told (w .𝓤) (w .H) κs (w .𝓖 .A) (w .𝓜 .mem) (w .𝓡 .run) session room window packets single count answers told session′ room′ window′ packets′ single′ count′ answers′ told′ r)
-packets-told κs session room window packets single count answers told session′ room′ window′ packets′ single′ count′ answers′ told′ r = all-models (λ w. exports-packets.ensures-told (w .𝓤) (w .H) κs (w .𝓖 .A) (w .𝓜 .mem) (w .𝓡 .run) session room window packets single count answers told session′ room′ window′ packets′ single′ count′ answers′ told′ r) (λ w. r-last _) (λ w. refl) (λ w. refl) (λ w. refl)
+packets-told κs session room window packets single count answers told session′ room′ window′ packets′ single′ count′ answers′ told′ r = all-models _ (λ w. r-last _) (λ w. refl) (λ w. refl) (λ w. refl)
 
 pub exports-order-once : (κs : _) (session : _) (room : _) (id : _) (told : _) (session′ : _) (room′ : _) (id′ : _) (told′ : _) (one other : _) → AllOf (order-refusal κs session room id told session′ room′ id′ told′ one .tells) → AllOf (order-refusal κs session room id told session′ room′ id′ told′ other .tells) → one ≡ other
 exports-order-once κs session room id told session′ room′ id′ told′ one other = once

@@ -43,9 +43,13 @@ fn both(label: &[u8], s: &[u8]) {
     end();
 }
 
-fn walked(s: &[u8]) {
+fn judged(code: u8) {
     put(b": judged");
-    byte(packet_reader::judge::judge(s));
+    byte(code);
+}
+
+fn walked(s: &[u8]) {
+    judged(packet_reader::judge::judge(s));
     let mut at = packet_reader::cursor::start(s);
     let mut k: u8 = 0;
     while k < 5 {
@@ -84,8 +88,7 @@ fn placed(start: usize, size: usize) {
 
 // The same by a reader that is opened, asked and stepped: where it stands, and how far a step goes.
 fn read(s: &[u8]) {
-    put(b": judged");
-    byte(packet_reader::plain::refused(s));
+    judged(packet_reader::plain::refused(s));
     let mut at = packet_reader::plain::opened(s);
     let mut k: u8 = 0;
     while k < 5 {

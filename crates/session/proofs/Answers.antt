@@ -4,14 +4,22 @@ use mathlib.Core.Path.{_≡_, refl, ap, _∙_, sym, subst}
 use mathlib.Core.List.{List}
 use Prim.Native.Nat.{ℕ, _≤_, _<_}
 use native.Mathlib.Omega.{arith}
-use lib.ListN.{length, getD}
-use Rattle.book.specs.Asking.{insideFor, orderAsked}
+use lib.ListN.{length, getD, take}
+use Rattle.fields.specs.Id.{idAnswer}
+use Rattle.fields.specs.declared.id.IdValue.{IdValue}
+use Rattle.fields.specs.declared.id.IdValue.the-variants.{Value, Refused}
+use Rattle.book.specs.Asking.{insideFor, noOrderFor, orderAsked}
+use Rattle.book.specs.Lookup.{keyAt}
 use Rattle.book.specs.Tables as book
-use Rattle.book.specs.Tables.{Book, Tables, gone}
+use Rattle.book.specs.Tables.{blank, Book, Tables, gone}
 use Rattle.book.specs.declared.asking.InsideReply.{InsideReply}
 use Rattle.book.specs.declared.asking.OrderReply.{OrderReply}
+use Rattle.book.specs.declared.asking.Reply.the-variants.{Known}
+use Rattle.book.specs.declared.lookup.Found.{Found}
+use Rattle.book.specs.declared.lookup.Found.the-variants.{At, Nothing}
 use Rattle.book.specs.declared.tables.Inside.{Inside}
 use Rattle.book.specs.declared.tables.Order.{Order}
+use Rattle.book.proofs.Answers.{order-bad, order-known, order-none, order-within}
 use Rattle.book.proofs.Keeping as keeping
 use Rattle.book_room.specs.Room.{Lies, insideAt, insidesIn, partsOf}
 use Rattle.book_room.proofs.Insides as insides
@@ -56,6 +64,27 @@ module _ {s : Held} (rule : Ruled s) where
 
   pub inside-asked : (symbol : List ℕ) {r : InsideReply} → r ≡ insideFor (book.view tabled .insides) symbol → r ≡ insideFor (insidesIn (s .room)) symbol
   inside-asked symbol e = e ∙ ap (λ (t : Tables). insideFor (t .insides) symbol) (sym tables-are)
+
+  -- an order by its id: what `value` answers, and what is found in the room
+  module _ (id : List ℕ) {answer : IdValue} (asked : answer ≡ idAnswer id) where
+    pub bad-asked : {n : ℕ} → answer ≡ Refused n → noOrderFor 12 ≡ orderAsked (tablesIn (s .session) (s .room)) id
+    bad-asked e = order-asked id (order-bad tabled (lies .kept) id asked e)
+
+    module _ {key : ℕ} (value : answer ≡ Value key) {found : Found} (sought : (next end : ℕ) (b : Book) → Lies (s .room) next end b → found ≡ keyAt key (take (b .live) (b .keys))) where
+      there : found ≡ keyAt key (take (tabled .live) (tabled .keys))
+      there = sought (state .next) (state .end) tabled lies
+
+      pub none-asked : found ≡ Nothing → noOrderFor 13 ≡ orderAsked (tablesIn (s .session) (s .room)) id
+      none-asked e = order-asked id (order-none tabled (lies .kept) id asked value there e)
+
+      module _ {place : ℕ} (at : found ≡ At place) where
+        pub spot-few : place < 256
+        spot-few = omega (arith, order-within tabled (lies .kept) id asked value there at, lies .kept .live)
+
+        pub known-asked : _≡_ {A = OrderReply} (record { reply = Known; order = getD (s .session .orders) place blank }) (orderAsked (tablesIn (s .session) (s .room)) id)
+        known-asked =
+            order-asked id
+            (ap (λ (l : List Order). record { reply = Known; order = getD l place blank }) orders-are ∙ order-known tabled (lies .kept) id asked value there at)
 
   -- the inside at a place that is held
   module _ {place : ℕ} (within : place < tabled .held) where

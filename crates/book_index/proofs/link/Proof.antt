@@ -11,9 +11,6 @@ use Rattle.book_index.proofs.link.Tie as tie
 size : (c : tie.After-slice-known2) → length (c .before .before .before .before .args .index .now) ≡ 765
 size c = size-by _ (c .before .before .before .before .pre .1 .is)
 
-returns : tie.Need-returns
-returns c = λ chains o. link-is _ chains _ _ _ o (c .before .behind .ensures .0) (c .before .behind .ensures .1 chains (o .is))
-
 pub link-spec : {M : Type 1} → statement M
 link-spec =
     tie.close
@@ -27,4 +24,4 @@ link-spec =
     (λ c. search needs)
     (λ c. let s = size c in search needs)
     (λ c. search needs)
-    returns)
+    (λ c chains o. link-is _ chains _ _ _ o (c .before .behind .ensures .0) (c .before .behind .ensures .1 chains (o .is))))

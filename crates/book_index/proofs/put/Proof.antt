@@ -11,9 +11,6 @@ use Rattle.book_index.proofs.put.Tie as tie
 size : (c : tie.After-slice-known2) → length (c .before .before .before .args .index .now) ≡ 765
 size c = size-of _ (c .before .before .before .pre .1 .is)
 
-returns : tie.Need-returns
-returns c = λ ids o. put-is _ ids _ _ _ o (c .before .head .ensures .0)
-
 pub put-spec : {M : Type 1} → statement M
 put-spec =
     tie.close
@@ -27,4 +24,4 @@ put-spec =
     (λ c. search needs)
     (λ c. let s = size c in search needs)
     (λ c. search needs)
-    returns)
+    (λ c ids o. put-is _ ids _ _ _ o (c .before .head .ensures .0)))

@@ -8,18 +8,12 @@ use borrow.Author.Needs.{needs}
 use Rattle.desk.proofs.main.Statement.{statement}
 use Rattle.desk.proofs.main.Tie as tie
 
-abbrev Inv-loop : tie.InvT-loop
-Inv-loop buf₀ room₀ window₀ session₀ from₀ to₀ ended₀ turns₀ buf room window session from to ended turns = Ruled (held session room window) × (from ≤ to) × (to ≤ length buf) × (length buf ≡ 16384)
-
-abbrev μ-loop : tie.MeasureT-loop
-μ-loop buf₀ room₀ window₀ session₀ from₀ to₀ ended₀ turns₀ buf room window session from to ended turns = turns
-
 pub main-spec : {M : Type 1} → statement M
 main-spec =
     tie.close
     (tie.spec
-    Inv-loop
-    μ-loop
+    (λ buf₀ room₀ window₀ session₀ from₀ to₀ ended₀ turns₀ buf room window session from to ended turns. Ruled (held session room window) × (from ≤ to) × (to ≤ length buf) × (length buf ≡ 16384))
+    (λ buf₀ room₀ window₀ session₀ from₀ to₀ ended₀ turns₀ buf room window session from to ended turns. turns)
     (λ c κs. search needs)
     (λ c. search needs)
     (λ c. search needs)

@@ -7,18 +7,12 @@ use borrow.Author.Needs.{needs}
 use Rattle.desk.proofs.lines.next.Statement.{statement}
 use Rattle.desk.proofs.lines.next.Tie as tie
 
-abbrev Inv-loop : tie.InvT-loop
-Inv-loop buf₀ from to ended first₀ last₀ long₀ turns₀ buf first last long turns = (first ≤ last) × (last ≤ length buf) × (length buf ≡ length buf₀)
-
-abbrev μ-loop : tie.MeasureT-loop
-μ-loop buf₀ from to ended first₀ last₀ long₀ turns₀ buf first last long turns = turns
-
 pub next-spec : {M : Type 1} → statement M
 next-spec =
     tie.close
     (tie.spec
-    Inv-loop
-    μ-loop
+    (λ buf₀ from to ended first₀ last₀ long₀ turns₀ buf first last long turns. (first ≤ last) × (last ≤ length buf) × (length buf ≡ length buf₀))
+    (λ buf₀ from to ended first₀ last₀ long₀ turns₀ buf first last long turns. turns)
     (λ c κs. search needs)
     (λ c. search needs)
     (λ c. search needs)

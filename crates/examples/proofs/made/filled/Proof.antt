@@ -6,18 +6,12 @@ use borrow.Author.Needs.{needs}
 use Rattle.examples.proofs.made.filled.Statement.{statement}
 use Rattle.examples.proofs.made.filled.Tie as tie
 
-abbrev Inv-loop : tie.InvT-loop
-Inv-loop room₀ window₀ kind count session₀ k₀ room window session k = Ruled (held session room window)
-
-abbrev μ-loop : tie.MeasureT-loop
-μ-loop room₀ window₀ kind count session₀ k₀ room window session k = count - k
-
 pub filled-spec : {M : Type 1} → statement M
 filled-spec =
     tie.close
     (tie.spec
-    Inv-loop
-    μ-loop
+    (λ room₀ window₀ kind count session₀ k₀ room window session k. Ruled (held session room window))
+    (λ room₀ window₀ kind count session₀ k₀ room window session k. count - k)
     (λ c κs. search needs)
     (λ c. search needs)
     (λ c. search needs)

@@ -8,31 +8,16 @@ use borrow.Author.Needs.{needs}
 use Rattle.session.proofs.state.free.Statement.{statement}
 use Rattle.session.proofs.state.free.Tie as tie
 
-abbrev Inv-loop : tie.InvT-loop
-Inv-loop window₀ k₀ window k = Cleared window₀ window k
-
-abbrev μ-loop : tie.MeasureT-loop
-μ-loop window₀ k₀ window k = length window₀ - k
-
-loop-holds : tie.Need-loop-holds Inv-loop μ-loop
-loop-holds c = cleared-none _
-
-loop-again : tie.Need-loop-again Inv-loop μ-loop
-loop-again c = cleared-more _ (c .before .loop .inv) (c .loop-test .taken)
-
-returns : tie.Need-returns Inv-loop μ-loop
-returns c = cleared-all _ (c .before .loop .inv) (c .loop-test .left)
-
 pub free-spec : {M : Type 1} → statement M
 free-spec =
     tie.close
     (tie.spec
-    Inv-loop
-    μ-loop
-    loop-holds
+    (λ old k₀ now k. Cleared old now k)
+    (λ old k₀ now k. length old - k)
+    (λ c. cleared-none _)
     (λ c. search needs)
     (λ c. search needs)
     (λ c. omega (arith, c .loop-test .taken, c .before .loop .inv .size))
-    loop-again
+    (λ c. cleared-more _ (c .before .loop .inv) (c .loop-test .taken))
     (λ c. c .before .loop .inv .size)
-    returns)
+    (λ c. cleared-all _ (c .before .loop .inv) (c .loop-test .left)))

@@ -5,9 +5,6 @@ use Rattle.exports.proofs.asking.locate.Tie as tie
 abbrev pub entry-from-found-arg : tie.After-found-arg → tie.Start
 entry-from-found-arg c = c .before .before .before .before .before .before
 
-abbrev pub entry-from-found : tie.After-found → tie.Start
-entry-from-found c = entry-from-found-arg (c .before)
-
 abbrev pub value-from-no-spot : tie.After-no-spot → tie.After-value
 value-from-no-spot c = c .before .before .before
 
@@ -17,14 +14,11 @@ value-from-known-told2 c = c .before .before .before .before .before .before .be
 abbrev pub value-from-no-spot2 : tie.After-no-spot2 → tie.After-value
 value-from-no-spot2 c = c .before .before .before .before .before .before .before .before
 
-abbrev pub key-from-found : tie.After-found → tie.After-key
-key-from-found c = c .before .before .before
-
 abbrev pub key-from-known-told2 : tie.After-known-told2 → tie.After-key
-key-from-known-told2 c = key-from-found (c .before .before .before)
+key-from-known-told2 c = c .before .before .before .before .before .before
 
 abbrev pub key-from-no-spot2 : tie.After-no-spot2 → tie.After-key
-key-from-no-spot2 c = key-from-found (c .before .before .before)
+key-from-no-spot2 c = c .before .before .before .before .before .before
 
 abbrev pub enum-told-from-no-spot : tie.After-no-spot → tie.After-enum-told
 enum-told-from-no-spot c = c .before

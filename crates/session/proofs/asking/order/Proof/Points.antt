@@ -8,14 +8,11 @@ entry-from-no-order-for c = c .before .before .before .before
 abbrev pub entry-from-found-arg : tie.After-found-arg → tie.Start
 entry-from-found-arg c = c .before .before .before .before .before
 
-abbrev pub entry-from-found : tie.After-found → tie.Start
-entry-from-found c = entry-from-found-arg (c .before)
-
 abbrev pub entry-from-known-told2 : tie.After-known-told2 → tie.Start
-entry-from-known-told2 c = entry-from-found (c .before .before .before)
+entry-from-known-told2 c = entry-from-found-arg (c .before .before .before .before)
 
 abbrev pub entry-from-no-order-for2 : tie.After-no-order-for2 → tie.Start
-entry-from-no-order-for2 c = entry-from-found (c .before .before .before)
+entry-from-no-order-for2 c = entry-from-found-arg (c .before .before .before .before)
 
 abbrev pub entry-from-order : tie.After-order → tie.Start
 entry-from-order c = entry-from-known-told2 (c .before)
@@ -32,14 +29,11 @@ value-from-no-order-for2 c = c .before .before .before .before .before .before .
 abbrev pub value-from-order : tie.After-order → tie.After-value
 value-from-order c = value-from-known-told2 (c .before)
 
-abbrev pub key-from-found : tie.After-found → tie.After-key
-key-from-found c = c .before .before .before
-
 abbrev pub key-from-known-told2 : tie.After-known-told2 → tie.After-key
-key-from-known-told2 c = key-from-found (c .before .before .before)
+key-from-known-told2 c = c .before .before .before .before .before .before
 
 abbrev pub key-from-no-order-for2 : tie.After-no-order-for2 → tie.After-key
-key-from-no-order-for2 c = key-from-found (c .before .before .before)
+key-from-no-order-for2 c = c .before .before .before .before .before .before
 
 abbrev pub key-from-order : tie.After-order → tie.After-key
 key-from-order c = key-from-known-told2 (c .before)
