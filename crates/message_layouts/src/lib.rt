@@ -81,41 +81,6 @@ pub fn named(s: &[u8]) -> Named
     }
 }
 
-fn deal(s: &[u8], at: usize) -> Deal
-    requires { ⌜ at + 27 ≤ length (now s) ⌝ }
-    ensures { λ r. ⌜ r ≡ dealIn (decode layouts.deal at (now (s .entry))) ⌝ }
-{
-    Deal {
-        side: wire::u8_at(s, at),
-        quantity: wire::u32_at(s, at + 1),
-        symbol: wire::text14_at(s, at + 5),
-        price: wire::u64_at(s, at + 19),
-    }
-}
-
-fn quote(s: &[u8], at: usize) -> Quote
-    requires { ⌜ at + 12 ≤ length (now s) ⌝ }
-    ensures { λ r. ⌜ r ≡ quoteIn (decode layouts.quote at (now (s .entry))) ⌝ }
-{
-    Quote {
-        price: wire::u64_at(s, at),
-        volume: wire::u32_at(s, at + 8),
-    }
-}
-
-pub fn add(s: &[u8]) -> AddFields
-    requires { ⌜ 55 ≤ length (now s) ⌝ }
-    ensures { λ r. ⌜ r ≡ addIn (rowIn layouts.add (now (s .entry))) ⌝ }
-{
-    AddFields {
-        named: named(s),
-        deal: deal(s, 21),
-        firm: wire::text4_at(s, 48),
-        unsolicited: wire::u8_at(s, 52),
-        flags: wire::u16_at(s, 53),
-    }
-}
-
 pub fn update(s: &[u8]) -> UpdateFields
     requires { ⌜ 35 ≤ length (now s) ⌝ }
     ensures { λ r. ⌜ r ≡ updateIn (rowIn layouts.update (now (s .entry))) ⌝ }
@@ -151,16 +116,28 @@ pub fn priced(s: &[u8]) -> PricedFields
     }
 }
 
-pub fn top(s: &[u8]) -> TopFields
-    requires { ⌜ 46 ≤ length (now s) ⌝ }
-    ensures { λ r. ⌜ r ≡ topIn (rowIn layouts.top (now (s .entry))) ⌝ }
+fn deal(s: &[u8], at: usize) -> Deal
+    requires { ⌜ at + 27 ≤ length (now s) ⌝ }
+    ensures { λ r. ⌜ r ≡ dealIn (decode layouts.deal at (now (s .entry))) ⌝ }
 {
-    TopFields {
-        time: wire::u32_at(s, 3),
-        symbol: wire::text14_at(s, 7),
-        ask: quote(s, 21),
-        bid: quote(s, 33),
-        unsolicited: wire::u8_at(s, 45),
+    Deal {
+        side: wire::u8_at(s, at),
+        quantity: wire::u32_at(s, at + 1),
+        symbol: wire::text14_at(s, at + 5),
+        price: wire::u64_at(s, at + 19),
+    }
+}
+
+pub fn add(s: &[u8]) -> AddFields
+    requires { ⌜ 55 ≤ length (now s) ⌝ }
+    ensures { λ r. ⌜ r ≡ addIn (rowIn layouts.add (now (s .entry))) ⌝ }
+{
+    AddFields {
+        named: named(s),
+        deal: deal(s, 21),
+        firm: wire::text4_at(s, 48),
+        unsolicited: wire::u8_at(s, 52),
+        flags: wire::u16_at(s, 53),
     }
 }
 
@@ -173,5 +150,28 @@ pub fn trade(s: &[u8]) -> TradeFields
         deal: deal(s, 7),
         execution: wire::u64_at(s, 34),
         reserved: wire::u64_at(s, 42),
+    }
+}
+
+fn quote(s: &[u8], at: usize) -> Quote
+    requires { ⌜ at + 12 ≤ length (now s) ⌝ }
+    ensures { λ r. ⌜ r ≡ quoteIn (decode layouts.quote at (now (s .entry))) ⌝ }
+{
+    Quote {
+        price: wire::u64_at(s, at),
+        volume: wire::u32_at(s, at + 8),
+    }
+}
+
+pub fn top(s: &[u8]) -> TopFields
+    requires { ⌜ 46 ≤ length (now s) ⌝ }
+    ensures { λ r. ⌜ r ≡ topIn (rowIn layouts.top (now (s .entry))) ⌝ }
+{
+    TopFields {
+        time: wire::u32_at(s, 3),
+        symbol: wire::text14_at(s, 7),
+        ask: quote(s, 21),
+        bid: quote(s, 33),
+        unsolicited: wire::u8_at(s, 45),
     }
 }
