@@ -40,13 +40,13 @@ module _ (s : List ℕ) (seen : Seen) where
   session-is read b = rw (b, read)
 
   pub trade-is : {fields : TradeFields} {broken : ℕ} → fields ≡ tradeIn (rowIn layouts.trade s)
-      → broken ≡ brokenBy 27 (goodTradeSide (fields .side) ∷ goodQuantity (fields .quantity) ∷ goodSymbol (fields .symbol) ∷ goodPrice (fields .price) ∷ [])
+      → broken ≡ brokenBy 27 (goodTradeSide (fields .deal .side) ∷ goodQuantity (fields .deal .quantity) ∷ goodSymbol (fields .deal .symbol) ∷ goodPrice (fields .deal .price) ∷ [])
       → firstOf ((not (eqb broken 0), Fault 2) ∷ []) Unchanged ≡ effectOf seen (fieldsOf 27 s)
   unfolding effectOf fieldsOf messageOf layoutOf payloadOf brokenOf
   trade-is read b = rw (b, read)
 
   pub top-is : {inside : Found} {held : ℕ} → seen .inside ≡ inside → seen .held ≡ held → {fields : TopFields} {broken : ℕ} → fields ≡ topIn (rowIn layouts.top s)
-      → broken ≡ brokenBy 26 (goodSymbol (fields .symbol) ∷ goodInsidePrice (fields .ask) ∷ goodInsidePrice (fields .bid) ∷ goodUnsolicited (fields .unsolicited) ∷ [])
+      → broken ≡ brokenBy 26 (goodSymbol (fields .symbol) ∷ goodInsidePrice (fields .ask .price) ∷ goodInsidePrice (fields .bid .price) ∷ goodUnsolicited (fields .unsolicited) ∷ [])
       → firstOf ((not (eqb broken 0), Fault 2) ∷ (not (isAt inside) && leb 64 held, Fault 8) ∷ []) (cond (isAt inside) (Renew (placeFound inside)) Enter)
       ≡ effectOf seen (fieldsOf 26 s)
   unfolding effectOf fieldsOf messageOf layoutOf payloadOf brokenOf
@@ -59,7 +59,7 @@ module _ (s : List ℕ) (seen : Seen) where
 
     module _ {order : Found} (o : seen .order ≡ order) where
       pub add-is : {live : ℕ} → seen .live ≡ live → {fields : AddFields} {broken : ℕ} → fields ≡ addIn (rowIn layouts.add s)
-          → broken ≡ brokenBy 21 (named ∷ goodSide (fields .side) ∷ goodQuantity (fields .quantity) ∷ goodSymbol (fields .symbol) ∷ goodPrice (fields .price) ∷ goodUnsolicited (fields .unsolicited) ∷ [])
+          → broken ≡ brokenBy 21 (named ∷ goodSide (fields .deal .side) ∷ goodQuantity (fields .deal .quantity) ∷ goodSymbol (fields .deal .symbol) ∷ goodPrice (fields .deal .price) ∷ goodUnsolicited (fields .unsolicited) ∷ [])
           → firstOf ((not (eqb broken 0), Fault 2) ∷ (isAt order, Fault 3) ∷ (leb 256 live, Fault 4) ∷ []) Put ≡ effectOf seen (fieldsOf 21 s)
       unfolding effectOf fieldsOf messageOf layoutOf payloadOf brokenOf
       add-is l read b = rw (b, named-good, read, sym o, sym l)
@@ -92,7 +92,7 @@ module _ (s : List ℕ) (seen : Seen) where
         execution-is read b = rw (b, named-good, read, sym o, sym q, sym p)
 
         pub priced-is : {fields : PricedFields} {broken : ℕ} → fields ≡ pricedIn (rowIn layouts.priced s)
-            → broken ≡ brokenBy 25 (named ∷ goodQuantity (fields .executed) ∷ goodPrice (fields .price) ∷ []) → judged broken (fields .executed) (fields .remaining) ≡ effectOf seen (fieldsOf 25 s)
+            → broken ≡ brokenBy 25 (named ∷ goodQuantity (fields .execution .executed) ∷ goodPrice (fields .price) ∷ []) → judged broken (fields .execution .executed) (fields .execution .remaining) ≡ effectOf seen (fieldsOf 25 s)
         unfolding effectOf fieldsOf messageOf layoutOf payloadOf brokenOf
         priced-is read b = rw (b, named-good, read, sym o, sym q, sym p)
 

@@ -27,13 +27,13 @@ pub fn add(bytes: &[u8], key: u64, order: Found, live: usize) -> Effect
     ensures { λ r. ⌜ ((seen : Seen) → seen .order ≡ order → seen .live ≡ live → r ≡ effectOf seen (fieldsOf 21 (now (bytes .entry)))) ⌝ }
 {
     let fields = message_layouts::add(bytes);
-    let symbol = fields.symbol;
+    let symbol = fields.deal.symbol;
     let broken = message_rules::add(
         is_value(key),
-        fields.side,
-        fields.quantity,
+        fields.deal.side,
+        fields.deal.quantity,
         symbol,
-        fields.price,
+        fields.deal.price,
         fields.unsolicited,
     );
     added(broken == 0, order, live)
@@ -77,14 +77,14 @@ fn priced(bytes: &[u8], key: u64, order: Found, shares: u32, price: u64) -> Effe
     ensures { λ r. ⌜ ((seen : Seen) → seen .order ≡ order → seen .shares ≡ shares → seen .price ≡ price → r ≡ effectOf seen (fieldsOf 25 (now (bytes .entry)))) ⌝ }
 {
     let fields = message_layouts::priced(bytes);
-    let broken = message_rules::priced(is_value(key), fields.executed, fields.price);
+    let broken = message_rules::priced(is_value(key), fields.execution.executed, fields.price);
     executed(
         broken == 0,
         order,
         shares,
         price,
-        fields.executed,
-        fields.remaining,
+        fields.execution.executed,
+        fields.execution.remaining,
     )
 }
 
@@ -117,7 +117,12 @@ fn top(bytes: &[u8], inside: Found, held: usize) -> Effect
 {
     let fields = message_layouts::top(bytes);
     let symbol = fields.symbol;
-    let broken = message_rules::top(symbol, fields.ask, fields.bid, fields.unsolicited);
+    let broken = message_rules::top(
+        symbol,
+        fields.ask.price,
+        fields.bid.price,
+        fields.unsolicited,
+    );
     shown(broken == 0, inside, held)
 }
 
@@ -126,8 +131,13 @@ fn trade(bytes: &[u8]) -> Effect
     ensures { λ r. ⌜ ((seen : Seen) → r ≡ effectOf seen (fieldsOf 27 (now (bytes .entry)))) ⌝ }
 {
     let fields = message_layouts::trade(bytes);
-    let symbol = fields.symbol;
-    let broken = message_rules::trade(fields.side, fields.quantity, symbol, fields.price);
+    let symbol = fields.deal.symbol;
+    let broken = message_rules::trade(
+        fields.deal.side,
+        fields.deal.quantity,
+        symbol,
+        fields.deal.price,
+    );
     kept(broken == 0, Effect::Unchanged)
 }
 

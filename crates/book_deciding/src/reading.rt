@@ -12,13 +12,12 @@ ghost use Rattle.fields.specs.Id.{digitTable, numberOf};
 ghost use Rattle.message.specs.Row.{fieldsOf};
 ghost use Rattle.book.specs.Applying.{Naming, orderOf, insideOf};
 
-// The value of the id of 21 to 25, or NONE where it breaks the id's rule. They all begin as an Order Delete does:
-// the time, then the id.
+// The value of the id of 21 to 25, or NONE where it breaks the id's rule.
 pub fn key_at(digits: &[u8; 256], bytes: &[u8]) -> u64
     requires { ⌜ (now digits ≡ digitTable) × (21 ≤ length (now bytes)) ⌝ }
     ensures { λ r. ⌜ r ≡ numberOf (part (now (bytes .entry)) 7 14) ⌝ }
 {
-    let fields = message_layouts::delete(bytes);
+    let fields = message_layouts::named(bytes);
     let id = fields.id;
     match value_with(digits, id) {
         IdValue::Value(key) => key,
@@ -33,14 +32,14 @@ pub fn order_of(bytes: &[u8], key: u64) -> Order
 {
     let fields = message_layouts::add(bytes);
     let firm = fields.firm;
-    let symbol = fields.symbol;
+    let symbol = fields.deal.symbol;
     Order {
         id: key,
-        price: fields.price,
-        shares: fields.quantity,
+        price: fields.deal.price,
+        shares: fields.deal.quantity,
         firm,
         symbol,
-        side: fields.side,
+        side: fields.deal.side,
         unsolicited: fields.unsolicited,
     }
 }
@@ -53,11 +52,11 @@ pub fn inside_of(bytes: &[u8]) -> Inside
     let fields = message_layouts::top(bytes);
     let symbol = fields.symbol;
     Inside {
-        ask: fields.ask,
-        bid: fields.bid,
+        ask: fields.ask.price,
+        bid: fields.bid.price,
         time: fields.time as u64,
-        askvolume: fields.askvolume as u64,
-        bidvolume: fields.bidvolume as u64,
+        askvolume: fields.ask.volume as u64,
+        bidvolume: fields.bid.volume as u64,
         symbol,
         unsolicited: fields.unsolicited,
     }

@@ -59,6 +59,14 @@ top = number 4 ∷ text 14 ∷ number 8 ∷ number 4 ∷ number 8 ∷ number 4 �
 abbrev pub trade : List Field
 trade = number 4 ∷ number 1 ∷ number 4 ∷ text 14 ∷ number 8 ∷ number 8 ∷ number 8 ∷ []
 
+-- what an Order Add and a Trade have alike: side, quantity, symbol, price
+abbrev pub deal : List Field
+deal = number 1 ∷ number 4 ∷ text 14 ∷ number 8 ∷ []
+
+-- one side of a Top of Book: price, volume
+abbrev pub quote : List Field
+quote = number 8 ∷ number 4 ∷ []
+
 abbrev pub layouts : List (ℕ × List Field)
 layouts =
     (9, security) ∷ (11, spinStart) ∷ (12, spinEnd) ∷ (20, tradingSession) ∷ (21, add) ∷ (22, update) ∷ (23, delete) ∷ (24, execution) ∷ (25, priced) ∷ (26, top) ∷ (27, trade) ∷ []

@@ -3,7 +3,7 @@
 -- Assumes nothing.
 use mathlib.Core.List.{List, [], _∷_}
 use Prim.Native.Nat.{ℕ}
-use lib.ListN.{replicate}
+use lib.ListN.{drop, replicate}
 use Rattle.wire.specs.Choice.{listedAt}
 use Rattle.wire.specs.Layout.{Field, Value, numberIs, textIs, numberIn, textIn, decode, widthOf}
 use Rattle.message.specs.Layouts.{head, layoutOf}
@@ -12,13 +12,15 @@ use Rattle.message.specs.declared.kinds.Body.the-variants.{Security, Spi
 use Rattle.message.specs.declared.kinds.Message.{Message}
 use Rattle.message.specs.declared.kinds.Terms.{Terms}
 use Rattle.message.specs.declared.kinds.Terms.the-variants.{Published, Own}
+use Rattle.message.specs.declared.layouts.Named.{Named}
+use Rattle.message.specs.declared.layouts.Deal.{Deal}
+use Rattle.message.specs.declared.layouts.Quote.{Quote}
 use Rattle.message.specs.declared.layouts.SecurityFields.{SecurityFields}
 use Rattle.message.specs.declared.layouts.SpinStartFields.{SpinStartFields}
 use Rattle.message.specs.declared.layouts.SpinEndFields.{SpinEndFields}
 use Rattle.message.specs.declared.layouts.TradingSessionFields.{TradingSessionFields}
 use Rattle.message.specs.declared.layouts.AddFields.{AddFields}
 use Rattle.message.specs.declared.layouts.UpdateFields.{UpdateFields}
-use Rattle.message.specs.declared.layouts.DeleteFields.{DeleteFields}
 use Rattle.message.specs.declared.layouts.ExecutionFields.{ExecutionFields}
 use Rattle.message.specs.declared.layouts.PricedFields.{PricedFields}
 use Rattle.message.specs.declared.layouts.TopFields.{TopFields}
@@ -42,6 +44,15 @@ abbrev pub about : List ℕ → Body → Message
 about symbol body = record { id = noText; symbol = symbol; firm = noFirm; body = body }
 
 -- ---- the fields of a type from its row, in the order of its layout
+
+abbrev pub namedIn : List Value → Named
+namedIn row = record { time = numberIn row 0; id = textIn row 1 }
+
+abbrev pub dealIn : List Value → Deal
+dealIn row = record { side = numberIn row 0; quantity = numberIn row 1; symbol = textIn row 2; price = numberIn row 3 }
+
+abbrev pub quoteIn : List Value → Quote
+quoteIn row = record { price = numberIn row 0; volume = numberIn row 1 }
 
 abbrev pub securityIn : List Value → SecurityFields
 securityIn row =
@@ -67,44 +78,28 @@ tradingSessionIn row =
 abbrev pub addIn : List Value → AddFields
 addIn row =
     let n = numberIn row in
-    let t = textIn row in
-    record { time = n 0; id = t 1; side = n 2; quantity = n 3; symbol = t 4; price = n 5; firm = t 6; unsolicited = n 7; flags = n 8 }
+    record { named = namedIn row; deal = dealIn (drop 2 row); firm = textIn row 6; unsolicited = n 7; flags = n 8 }
 
 abbrev pub updateIn : List Value → UpdateFields
 updateIn row =
     let n = numberIn row in
-    let t = textIn row in
-    record { time = n 0; id = t 1; quantity = n 2; price = n 3; flags = n 4 }
-
-abbrev pub deleteIn : List Value → DeleteFields
-deleteIn row =
-    let n = numberIn row in
-    let t = textIn row in
-    record { time = n 0; id = t 1 }
+    record { named = namedIn row; quantity = n 2; price = n 3; flags = n 4 }
 
 abbrev pub executionIn : List Value → ExecutionFields
 executionIn row =
     let n = numberIn row in
-    let t = textIn row in
-    record { time = n 0; id = t 1; executed = n 2; remaining = n 3; execution = n 4 }
+    record { named = namedIn row; executed = n 2; remaining = n 3; execution = n 4 }
 
 abbrev pub pricedIn : List Value → PricedFields
-pricedIn row =
-    let n = numberIn row in
-    let t = textIn row in
-    record { time = n 0; id = t 1; executed = n 2; remaining = n 3; execution = n 4; price = n 5 }
+pricedIn row = record { execution = executionIn row; price = numberIn row 5 }
 
 abbrev pub topIn : List Value → TopFields
-topIn row =
-    let n = numberIn row in
-    let t = textIn row in
-    record { time = n 0; symbol = t 1; ask = n 2; askvolume = n 3; bid = n 4; bidvolume = n 5; unsolicited = n 6 }
+topIn row = record { time = numberIn row 0; symbol = textIn row 1; ask = quoteIn (drop 2 row); bid = quoteIn (drop 4 row); unsolicited = numberIn row 6 }
 
 abbrev pub tradeIn : List Value → TradeFields
 tradeIn row =
     let n = numberIn row in
-    let t = textIn row in
-    record { time = n 0; side = n 1; quantity = n 2; symbol = t 3; price = n 4; execution = n 5; reserved = n 6 }
+    record { time = n 0; deal = dealIn (drop 1 row); execution = n 5; reserved = n 6 }
 
 -- ---- the message that has them
 
@@ -121,25 +116,32 @@ abbrev pub ofTradingSession : TradingSessionFields → Message
 ofTradingSession f = bare (TradingSession (f .time) (f .session))
 
 abbrev pub ofAdd : AddFields → Message
-ofAdd f = record { id = f .id; symbol = f .symbol; firm = f .firm; body = Add (f .time) (f .side) (f .quantity) (f .price) (f .unsolicited) (f .flags) }
+ofAdd f =
+    let d = f .deal in
+    record { id = f .named .id; symbol = d .symbol; firm = f .firm; body = Add (f .named .time) (d .side) (d .quantity) (d .price) (f .unsolicited) (f .flags) }
 
 abbrev pub ofUpdate : UpdateFields → Message
-ofUpdate f = named (f .id) (Update (f .time) (f .quantity) (f .price) (f .flags))
+ofUpdate f = named (f .named .id) (Update (f .named .time) (f .quantity) (f .price) (f .flags))
 
-abbrev pub ofDelete : DeleteFields → Message
+abbrev pub ofDelete : Named → Message
 ofDelete f = named (f .id) (Delete (f .time))
 
+abbrev pub executedAt : Terms → ExecutionFields → Message
+executedAt terms f = named (f .named .id) (Execution (f .named .time) (f .executed) (f .remaining) (f .execution) terms)
+
 abbrev pub ofExecution : ExecutionFields → Message
-ofExecution f = named (f .id) (Execution (f .time) (f .executed) (f .remaining) (f .execution) Published)
+ofExecution f = executedAt Published f
 
 abbrev pub ofPriced : PricedFields → Message
-ofPriced f = named (f .id) (Execution (f .time) (f .executed) (f .remaining) (f .execution) (Own (f .price)))
+ofPriced f = executedAt (Own (f .price)) (f .execution)
 
 abbrev pub ofTop : TopFields → Message
-ofTop f = about (f .symbol) (Top (f .time) (f .ask) (f .askvolume) (f .bid) (f .bidvolume) (f .unsolicited))
+ofTop f = about (f .symbol) (Top (f .time) (f .ask .price) (f .ask .volume) (f .bid .price) (f .bid .volume) (f .unsolicited))
 
 abbrev pub ofTrade : TradeFields → Message
-ofTrade f = about (f .symbol) (Trade (f .time) (f .side) (f .quantity) (f .price) (f .execution) (f .reserved))
+ofTrade f =
+    let d = f .deal in
+    about (d .symbol) (Trade (f .time) (d .side) (d .quantity) (d .price) (f .execution) (f .reserved))
 
 -- the message of a type, from its row; for 28 and unlisted types the type alone
 unfoldable pub messageOf : ℕ → List Value → Message
@@ -151,7 +153,7 @@ messageOf type row =
     ∷ (20, ofTradingSession (tradingSessionIn row))
     ∷ (21, ofAdd (addIn row))
     ∷ (22, ofUpdate (updateIn row))
-    ∷ (23, ofDelete (deleteIn row))
+    ∷ (23, ofDelete (namedIn row))
     ∷ (24, ofExecution (executionIn row))
     ∷ (25, ofPriced (pricedIn row))
     ∷ (26, ofTop (topIn row))

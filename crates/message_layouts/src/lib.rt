@@ -1,14 +1,17 @@
 // Parts: the one function a type that reads its fields, in the order of its layout. Each asks that the bytes of the
 // layout are there; the header's 3 bytes stand before them.
 ghost use mathlib.Core.Path.{_≡_};
-ghost use Prim.Native.Nat.{_≤_};
+ghost use Prim.Native.Nat.{_+_, _≤_};
 ghost use lib.ListN.{length};
+ghost use Rattle.wire.specs.Layout.{decode};
 ghost use Rattle.message.specs.Layouts as layouts;
-ghost use Rattle.message.specs.Row.{rowIn, securityIn, spinStartIn, spinEndIn, tradingSessionIn, addIn, updateIn, deleteIn, executionIn, pricedIn, topIn, tradeIn};
+ghost use Rattle.message.specs.Row.{rowIn, namedIn, dealIn, quoteIn, securityIn, spinStartIn, spinEndIn, tradingSessionIn, addIn, updateIn, executionIn, pricedIn, topIn, tradeIn};
 use message::layouts::AddFields;
-use message::layouts::DeleteFields;
+use message::layouts::Deal;
 use message::layouts::ExecutionFields;
+use message::layouts::Named;
 use message::layouts::PricedFields;
+use message::layouts::Quote;
 use message::layouts::SecurityFields;
 use message::layouts::SpinEndFields;
 use message::layouts::SpinStartFields;
@@ -67,20 +70,14 @@ pub fn trading_session(s: &[u8]) -> TradingSessionFields
     }
 }
 
-pub fn add(s: &[u8]) -> AddFields
-    requires { ⌜ 55 ≤ length (now s) ⌝ }
-    ensures { λ r. ⌜ r ≡ addIn (rowIn layouts.add (now (s .entry))) ⌝ }
+// What 21 to 25 begin with, which is all of an Order Delete.
+pub fn named(s: &[u8]) -> Named
+    requires { ⌜ 21 ≤ length (now s) ⌝ }
+    ensures { λ r. ⌜ r ≡ namedIn (rowIn layouts.delete (now (s .entry))) ⌝ }
 {
-    AddFields {
+    Named {
         time: wire::u32_at(s, 3),
         id: wire::text14_at(s, 7),
-        side: wire::u8_at(s, 21),
-        quantity: wire::u32_at(s, 22),
-        symbol: wire::text14_at(s, 26),
-        price: wire::u64_at(s, 40),
-        firm: wire::text4_at(s, 48),
-        unsolicited: wire::u8_at(s, 52),
-        flags: wire::u16_at(s, 53),
     }
 }
 
@@ -89,21 +86,10 @@ pub fn update(s: &[u8]) -> UpdateFields
     ensures { λ r. ⌜ r ≡ updateIn (rowIn layouts.update (now (s .entry))) ⌝ }
 {
     UpdateFields {
-        time: wire::u32_at(s, 3),
-        id: wire::text14_at(s, 7),
+        named: named(s),
         quantity: wire::u32_at(s, 21),
         price: wire::u64_at(s, 25),
         flags: wire::u16_at(s, 33),
-    }
-}
-
-pub fn delete(s: &[u8]) -> DeleteFields
-    requires { ⌜ 21 ≤ length (now s) ⌝ }
-    ensures { λ r. ⌜ r ≡ deleteIn (rowIn layouts.delete (now (s .entry))) ⌝ }
-{
-    DeleteFields {
-        time: wire::u32_at(s, 3),
-        id: wire::text14_at(s, 7),
     }
 }
 
@@ -112,25 +98,68 @@ pub fn execution(s: &[u8]) -> ExecutionFields
     ensures { λ r. ⌜ r ≡ executionIn (rowIn layouts.execution (now (s .entry))) ⌝ }
 {
     ExecutionFields {
-        time: wire::u32_at(s, 3),
-        id: wire::text14_at(s, 7),
+        named: named(s),
         executed: wire::u32_at(s, 21),
         remaining: wire::u32_at(s, 25),
         execution: wire::u64_at(s, 29),
     }
 }
 
+// An execution, then its own price.
 pub fn priced(s: &[u8]) -> PricedFields
     requires { ⌜ 45 ≤ length (now s) ⌝ }
     ensures { λ r. ⌜ r ≡ pricedIn (rowIn layouts.priced (now (s .entry))) ⌝ }
 {
     PricedFields {
-        time: wire::u32_at(s, 3),
-        id: wire::text14_at(s, 7),
-        executed: wire::u32_at(s, 21),
-        remaining: wire::u32_at(s, 25),
-        execution: wire::u64_at(s, 29),
+        execution: execution(s),
         price: wire::u64_at(s, 37),
+    }
+}
+
+fn deal(s: &[u8], at: usize) -> Deal
+    requires { ⌜ at + 27 ≤ length (now s) ⌝ }
+    ensures { λ r. ⌜ r ≡ dealIn (decode layouts.deal at (now (s .entry))) ⌝ }
+{
+    Deal {
+        side: wire::u8_at(s, at),
+        quantity: wire::u32_at(s, at + 1),
+        symbol: wire::text14_at(s, at + 5),
+        price: wire::u64_at(s, at + 19),
+    }
+}
+
+pub fn add(s: &[u8]) -> AddFields
+    requires { ⌜ 55 ≤ length (now s) ⌝ }
+    ensures { λ r. ⌜ r ≡ addIn (rowIn layouts.add (now (s .entry))) ⌝ }
+{
+    AddFields {
+        named: named(s),
+        deal: deal(s, 21),
+        firm: wire::text4_at(s, 48),
+        unsolicited: wire::u8_at(s, 52),
+        flags: wire::u16_at(s, 53),
+    }
+}
+
+pub fn trade(s: &[u8]) -> TradeFields
+    requires { ⌜ 50 ≤ length (now s) ⌝ }
+    ensures { λ r. ⌜ r ≡ tradeIn (rowIn layouts.trade (now (s .entry))) ⌝ }
+{
+    TradeFields {
+        time: wire::u32_at(s, 3),
+        deal: deal(s, 7),
+        execution: wire::u64_at(s, 34),
+        reserved: wire::u64_at(s, 42),
+    }
+}
+
+fn quote(s: &[u8], at: usize) -> Quote
+    requires { ⌜ at + 12 ≤ length (now s) ⌝ }
+    ensures { λ r. ⌜ r ≡ quoteIn (decode layouts.quote at (now (s .entry))) ⌝ }
+{
+    Quote {
+        price: wire::u64_at(s, at),
+        volume: wire::u32_at(s, at + 8),
     }
 }
 
@@ -141,25 +170,8 @@ pub fn top(s: &[u8]) -> TopFields
     TopFields {
         time: wire::u32_at(s, 3),
         symbol: wire::text14_at(s, 7),
-        ask: wire::u64_at(s, 21),
-        askvolume: wire::u32_at(s, 29),
-        bid: wire::u64_at(s, 33),
-        bidvolume: wire::u32_at(s, 41),
+        ask: quote(s, 21),
+        bid: quote(s, 33),
         unsolicited: wire::u8_at(s, 45),
-    }
-}
-
-pub fn trade(s: &[u8]) -> TradeFields
-    requires { ⌜ 50 ≤ length (now s) ⌝ }
-    ensures { λ r. ⌜ r ≡ tradeIn (rowIn layouts.trade (now (s .entry))) ⌝ }
-{
-    TradeFields {
-        time: wire::u32_at(s, 3),
-        side: wire::u8_at(s, 7),
-        quantity: wire::u32_at(s, 8),
-        symbol: wire::text14_at(s, 12),
-        price: wire::u64_at(s, 26),
-        execution: wire::u64_at(s, 34),
-        reserved: wire::u64_at(s, 42),
     }
 }

@@ -1,5 +1,4 @@
-// Parts: the fields of a message put at a place, all other bytes staying; a long row goes in two
-// halves, which keeps each proof short. No host needs them.
+// Parts: the fields of a message put at a place, all other bytes staying. No host needs them.
 ghost use mathlib.Core.List.{[], _∷_};
 ghost use mathlib.Core.Path.{_≡_};
 ghost use Prim.Native.Nat.{_+_, _≤_};
@@ -10,36 +9,38 @@ ghost use Rattle.message.specs.Row.{rowOf, rowWith, typeOf, typeOfTerms};
 use message::Body;
 use message::Message;
 use message::Terms;
+use message_put_market::deal;
 use message_put_market::top;
 use message_put_market::trade;
 
-fn security_front(
-    buf: &mut [u8],
-    at: usize,
-    symbol: [u8; 14],
-    updated: u64,
-    action: u8,
-    class: u8,
-    security: u32,
-)
-    requires { ⌜ at + widthOf (take 5 layouts.security) ≤ length (now buf) ⌝ }
-    ensures { λ _. ⌜ now (buf .exit) ≡ putRow (take 5 layouts.security) (textIs symbol ∷ numberIs updated ∷ numberIs action ∷ numberIs class ∷ numberIs security ∷ []) (now (buf .entry)) at ⌝ }
+// A Security goes in two halves, which keeps each proof short.
+fn security_front(buf: &mut [u8], at: usize, symbol: [u8; 14], updated: u64, action: u8, class: u8)
+    requires { ⌜ at + widthOf (take 4 layouts.security) ≤ length (now buf) ⌝ }
+    ensures { λ _. ⌜ now (buf .exit) ≡ putRow (take 4 layouts.security) (textIs symbol ∷ numberIs updated ∷ numberIs action ∷ numberIs class ∷ []) (now (buf .entry)) at ⌝ }
 {
     wire::put_text(buf, at, &symbol);
     wire::put_u64(buf, at + 14, updated);
     wire::put_u8(buf, at + 22, action);
     wire::put_u8(buf, at + 23, class);
-    wire::put_u32(buf, at + 24, security);
 }
 
-fn security_back(buf: &mut [u8], at: usize, flags: u16, tier: u8, reporting: u8, status: u8)
-    requires { ⌜ at + widthOf (drop 5 layouts.security) ≤ length (now buf) ⌝ }
-    ensures { λ _. ⌜ now (buf .exit) ≡ putRow (drop 5 layouts.security) (numberIs flags ∷ numberIs tier ∷ numberIs reporting ∷ numberIs status ∷ []) (now (buf .entry)) at ⌝ }
+fn security_back(
+    buf: &mut [u8],
+    at: usize,
+    security: u32,
+    flags: u16,
+    tier: u8,
+    reporting: u8,
+    status: u8,
+)
+    requires { ⌜ at + widthOf (drop 4 layouts.security) ≤ length (now buf) ⌝ }
+    ensures { λ _. ⌜ now (buf .exit) ≡ putRow (drop 4 layouts.security) (numberIs security ∷ numberIs flags ∷ numberIs tier ∷ numberIs reporting ∷ numberIs status ∷ []) (now (buf .entry)) at ⌝ }
 {
-    wire::put_u16(buf, at, flags);
-    wire::put_u8(buf, at + 2, tier);
-    wire::put_u8(buf, at + 3, reporting);
-    wire::put_u8(buf, at + 4, status);
+    wire::put_u32(buf, at, security);
+    wire::put_u16(buf, at + 4, flags);
+    wire::put_u8(buf, at + 6, tier);
+    wire::put_u8(buf, at + 7, reporting);
+    wire::put_u8(buf, at + 8, status);
 }
 
 fn of_security(
@@ -58,8 +59,8 @@ fn of_security(
     requires { ⌜ at + widthOf layouts.security ≤ length (now buf) ⌝ }
     ensures { λ _. ⌜ now (buf .exit) ≡ putRow layouts.security (textIs symbol ∷ numberIs updated ∷ numberIs action ∷ numberIs class ∷ numberIs security ∷ numberIs flags ∷ numberIs tier ∷ numberIs reporting ∷ numberIs status ∷ []) (now (buf .entry)) at ⌝ }
 {
-    security_front(buf, at, symbol, updated, action, class, security);
-    security_back(buf, at + 28, flags, tier, reporting, status);
+    security_front(buf, at, symbol, updated, action, class);
+    security_back(buf, at + 24, security, flags, tier, reporting, status);
 }
 
 fn spin_start(buf: &mut [u8], at: usize, spin: u8, time: u64, last: u32)
@@ -89,67 +90,8 @@ fn trading_session(buf: &mut [u8], at: usize, time: u64, session: u8)
     wire::put_u8(buf, at + 8, session);
 }
 
-fn add_front(buf: &mut [u8], at: usize, id: [u8; 14], time: u32, side: u8, quantity: u32)
-    requires { ⌜ at + widthOf (take 4 layouts.add) ≤ length (now buf) ⌝ }
-    ensures { λ _. ⌜ now (buf .exit) ≡ putRow (take 4 layouts.add) (numberIs time ∷ textIs id ∷ numberIs side ∷ numberIs quantity ∷ []) (now (buf .entry)) at ⌝ }
-{
-    wire::put_u32(buf, at, time);
-    wire::put_text(buf, at + 4, &id);
-    wire::put_u8(buf, at + 18, side);
-    wire::put_u32(buf, at + 19, quantity);
-}
-
-fn add_back(
-    buf: &mut [u8],
-    at: usize,
-    symbol: [u8; 14],
-    firm: [u8; 4],
-    price: u64,
-    unsolicited: u8,
-    flags: u16,
-)
-    requires { ⌜ at + widthOf (drop 4 layouts.add) ≤ length (now buf) ⌝ }
-    ensures { λ _. ⌜ now (buf .exit) ≡ putRow (drop 4 layouts.add) (textIs symbol ∷ numberIs price ∷ textIs firm ∷ numberIs unsolicited ∷ numberIs flags ∷ []) (now (buf .entry)) at ⌝ }
-{
-    wire::put_text(buf, at, &symbol);
-    wire::put_u64(buf, at + 14, price);
-    wire::put_text(buf, at + 22, &firm);
-    wire::put_u8(buf, at + 26, unsolicited);
-    wire::put_u16(buf, at + 27, flags);
-}
-
-fn add(
-    buf: &mut [u8],
-    at: usize,
-    id: [u8; 14],
-    symbol: [u8; 14],
-    firm: [u8; 4],
-    time: u32,
-    side: u8,
-    quantity: u32,
-    price: u64,
-    unsolicited: u8,
-    flags: u16,
-)
-    requires { ⌜ at + widthOf layouts.add ≤ length (now buf) ⌝ }
-    ensures { λ _. ⌜ now (buf .exit) ≡ putRow layouts.add (numberIs time ∷ textIs id ∷ numberIs side ∷ numberIs quantity ∷ textIs symbol ∷ numberIs price ∷ textIs firm ∷ numberIs unsolicited ∷ numberIs flags ∷ []) (now (buf .entry)) at ⌝ }
-{
-    add_front(buf, at, id, time, side, quantity);
-    add_back(buf, at + 23, symbol, firm, price, unsolicited, flags);
-}
-
-fn update(buf: &mut [u8], at: usize, id: [u8; 14], time: u32, quantity: u32, price: u64, flags: u16)
-    requires { ⌜ at + widthOf layouts.update ≤ length (now buf) ⌝ }
-    ensures { λ _. ⌜ now (buf .exit) ≡ putRow layouts.update (numberIs time ∷ textIs id ∷ numberIs quantity ∷ numberIs price ∷ numberIs flags ∷ []) (now (buf .entry)) at ⌝ }
-{
-    wire::put_u32(buf, at, time);
-    wire::put_text(buf, at + 4, &id);
-    wire::put_u32(buf, at + 18, quantity);
-    wire::put_u64(buf, at + 22, price);
-    wire::put_u16(buf, at + 30, flags);
-}
-
-fn delete(buf: &mut [u8], at: usize, id: [u8; 14], time: u32)
+// What 21 to 25 begin with, which is all of an Order Delete.
+fn named(buf: &mut [u8], at: usize, time: u32, id: [u8; 14])
     requires { ⌜ at + widthOf layouts.delete ≤ length (now buf) ⌝ }
     ensures { λ _. ⌜ now (buf .exit) ≡ putRow layouts.delete (numberIs time ∷ textIs id ∷ []) (now (buf .entry)) at ⌝ }
 {
@@ -157,48 +99,45 @@ fn delete(buf: &mut [u8], at: usize, id: [u8; 14], time: u32)
     wire::put_text(buf, at + 4, &id);
 }
 
-fn at_published(
+fn add(
     buf: &mut [u8],
     at: usize,
-    id: [u8; 14],
     time: u32,
-    executed: u32,
-    remaining: u32,
-    execution: u64,
-)
-    requires { ⌜ at + widthOf layouts.execution ≤ length (now buf) ⌝ }
-    ensures { λ _. ⌜ now (buf .exit) ≡ putRow layouts.execution (numberIs time ∷ textIs id ∷ numberIs executed ∷ numberIs remaining ∷ numberIs execution ∷ []) (now (buf .entry)) at ⌝ }
-{
-    wire::put_u32(buf, at, time);
-    wire::put_text(buf, at + 4, &id);
-    wire::put_u32(buf, at + 18, executed);
-    wire::put_u32(buf, at + 22, remaining);
-    wire::put_u64(buf, at + 26, execution);
-}
-
-fn at_own(
-    buf: &mut [u8],
-    at: usize,
     id: [u8; 14],
-    time: u32,
-    executed: u32,
-    remaining: u32,
-    execution: u64,
+    side: u8,
+    quantity: u32,
+    symbol: [u8; 14],
     price: u64,
+    firm: [u8; 4],
+    unsolicited: u8,
+    flags: u16,
 )
-    requires { ⌜ at + widthOf layouts.priced ≤ length (now buf) ⌝ }
-    ensures { λ _. ⌜ now (buf .exit) ≡ putRow layouts.priced (numberIs time ∷ textIs id ∷ numberIs executed ∷ numberIs remaining ∷ numberIs execution ∷ numberIs price ∷ []) (now (buf .entry)) at ⌝ }
+    requires { ⌜ at + widthOf layouts.add ≤ length (now buf) ⌝ }
+    ensures { λ _. ⌜ now (buf .exit) ≡ putRow layouts.add (numberIs time ∷ textIs id ∷ numberIs side ∷ numberIs quantity ∷ textIs symbol ∷ numberIs price ∷ textIs firm ∷ numberIs unsolicited ∷ numberIs flags ∷ []) (now (buf .entry)) at ⌝ }
 {
-    at_published(buf, at, id, time, executed, remaining, execution);
-    wire::put_u64(buf, at + 34, price);
+    named(buf, at, time, id);
+    deal(buf, at + 18, side, quantity, symbol, price);
+    wire::put_text(buf, at + 45, &firm);
+    wire::put_u8(buf, at + 49, unsolicited);
+    wire::put_u16(buf, at + 50, flags);
 }
 
-// An execution, at the published price or at its own.
+fn update(buf: &mut [u8], at: usize, time: u32, id: [u8; 14], quantity: u32, price: u64, flags: u16)
+    requires { ⌜ at + widthOf layouts.update ≤ length (now buf) ⌝ }
+    ensures { λ _. ⌜ now (buf .exit) ≡ putRow layouts.update (numberIs time ∷ textIs id ∷ numberIs quantity ∷ numberIs price ∷ numberIs flags ∷ []) (now (buf .entry)) at ⌝ }
+{
+    named(buf, at, time, id);
+    wire::put_u32(buf, at + 18, quantity);
+    wire::put_u64(buf, at + 22, price);
+    wire::put_u16(buf, at + 30, flags);
+}
+
+// An execution, at the published price or, behind the fields of both, at its own.
 fn of_execution(
     buf: &mut [u8],
     at: usize,
-    id: [u8; 14],
     time: u32,
+    id: [u8; 14],
     executed: u32,
     remaining: u32,
     execution: u64,
@@ -207,9 +146,13 @@ fn of_execution(
     requires { ⌜ at + widthOf (layouts.layoutOf (typeOfTerms terms)) ≤ length (now buf) ⌝ }
     ensures { λ _. ⌜ now (buf .exit) ≡ putRow (layouts.layoutOf (typeOfTerms terms)) (rowWith id [] [] (Body.Execution time executed remaining execution terms)) (now (buf .entry)) at ⌝ }
 {
+    named(buf, at, time, id);
+    wire::put_u32(buf, at + 18, executed);
+    wire::put_u32(buf, at + 22, remaining);
+    wire::put_u64(buf, at + 26, execution);
     match terms {
-        Terms::Published => at_published(buf, at, id, time, executed, remaining, execution),
-        Terms::Own(price) => at_own(buf, at, id, time, executed, remaining, execution, price),
+        Terms::Published => {}
+        Terms::Own(price) => wire::put_u64(buf, at + 34, price),
     }
 }
 
@@ -263,13 +206,13 @@ pub fn fields(message: Message, buf: &mut [u8], at: usize)
         } => add(
             buf,
             at,
-            id,
-            symbol,
-            firm,
             time,
+            id,
             side,
             quantity,
+            symbol,
             price,
+            firm,
             unsolicited,
             flags,
         ),
@@ -278,15 +221,15 @@ pub fn fields(message: Message, buf: &mut [u8], at: usize)
             quantity,
             price,
             flags,
-        } => update(buf, at, id, time, quantity, price, flags),
-        Body::Delete { time } => delete(buf, at, id, time),
+        } => update(buf, at, time, id, quantity, price, flags),
+        Body::Delete { time } => named(buf, at, time, id),
         Body::Execution {
             time,
             executed,
             remaining,
             execution,
             terms,
-        } => of_execution(buf, at, id, time, executed, remaining, execution, terms),
+        } => of_execution(buf, at, time, id, executed, remaining, execution, terms),
         Body::Top {
             time,
             ask,
@@ -297,8 +240,8 @@ pub fn fields(message: Message, buf: &mut [u8], at: usize)
         } => top(
             buf,
             at,
-            symbol,
             time,
+            symbol,
             ask,
             askvolume,
             bid,
@@ -315,10 +258,10 @@ pub fn fields(message: Message, buf: &mut [u8], at: usize)
         } => trade(
             buf,
             at,
-            symbol,
             time,
             side,
             quantity,
+            symbol,
             price,
             execution,
             reserved,

@@ -3,14 +3,14 @@
 ghost use mathlib.Core.Bool.{false};
 ghost use mathlib.Core.Path.{_≡_};
 ghost use lib.ListN.{length};
-ghost use Rattle.message.specs.Row.{bare as bareOf, named as namedOf, about as aboutOf, fieldsOf, ofSecurity, ofSpinStart, ofSpinEnd, ofTradingSession, ofAdd, ofUpdate, ofDelete, ofExecution, ofPriced, ofTop, ofTrade};
+ghost use Rattle.message.specs.Row.{bare as bareOf, named as namedOf, about as aboutOf, fieldsOf, ofSecurity, ofSpinStart, ofSpinEnd, ofTradingSession, ofAdd, ofUpdate, ofDelete, executedAt, ofExecution, ofPriced, ofTop, ofTrade};
 ghost use Rattle.message.specs.Table.{tooShort};
 use message::Body;
 use message::Message;
 use message::Terms;
 use message::layouts::AddFields;
-use message::layouts::DeleteFields;
 use message::layouts::ExecutionFields;
+use message::layouts::Named;
 use message::layouts::PricedFields;
 use message::layouts::SecurityFields;
 use message::layouts::SpinEndFields;
@@ -124,15 +124,15 @@ fn of_add(fields: AddFields) -> Message
     ensures { λ r. ⌜ r ≡ ofAdd fields ⌝ }
 {
     let body = Body::Add {
-        time: fields.time,
-        side: fields.side,
-        quantity: fields.quantity,
-        price: fields.price,
+        time: fields.named.time,
+        side: fields.deal.side,
+        quantity: fields.deal.quantity,
+        price: fields.deal.price,
         unsolicited: fields.unsolicited,
         flags: fields.flags,
     };
-    let id = fields.id;
-    let symbol = fields.symbol;
+    let id = fields.named.id;
+    let symbol = fields.deal.symbol;
     let firm = fields.firm;
     Message {
         id,
@@ -146,16 +146,16 @@ fn of_update(fields: UpdateFields) -> Message
     ensures { λ r. ⌜ r ≡ ofUpdate fields ⌝ }
 {
     let body = Body::Update {
-        time: fields.time,
+        time: fields.named.time,
         quantity: fields.quantity,
         price: fields.price,
         flags: fields.flags,
     };
-    let id = fields.id;
+    let id = fields.named.id;
     named(id, body)
 }
 
-fn of_delete(fields: DeleteFields) -> Message
+fn of_delete(fields: Named) -> Message
     ensures { λ r. ⌜ r ≡ ofDelete fields ⌝ }
 {
     let body = Body::Delete { time: fields.time };
@@ -163,34 +163,31 @@ fn of_delete(fields: DeleteFields) -> Message
     named(id, body)
 }
 
-fn of_execution(fields: ExecutionFields) -> Message
-    ensures { λ r. ⌜ r ≡ ofExecution fields ⌝ }
+// An execution, at the published price or at its own.
+fn executed(terms: Terms, fields: ExecutionFields) -> Message
+    ensures { λ r. ⌜ r ≡ executedAt terms fields ⌝ }
 {
-    let terms = Terms::Published;
     let body = Body::Execution {
-        time: fields.time,
+        time: fields.named.time,
         executed: fields.executed,
         remaining: fields.remaining,
         execution: fields.execution,
         terms,
     };
-    let id = fields.id;
+    let id = fields.named.id;
     named(id, body)
+}
+
+fn of_execution(fields: ExecutionFields) -> Message
+    ensures { λ r. ⌜ r ≡ ofExecution fields ⌝ }
+{
+    executed(Terms::Published, fields)
 }
 
 fn of_priced(fields: PricedFields) -> Message
     ensures { λ r. ⌜ r ≡ ofPriced fields ⌝ }
 {
-    let terms = Terms::Own(fields.price);
-    let body = Body::Execution {
-        time: fields.time,
-        executed: fields.executed,
-        remaining: fields.remaining,
-        execution: fields.execution,
-        terms,
-    };
-    let id = fields.id;
-    named(id, body)
+    executed(Terms::Own(fields.price), fields.execution)
 }
 
 fn of_top(fields: TopFields) -> Message
@@ -198,10 +195,10 @@ fn of_top(fields: TopFields) -> Message
 {
     let body = Body::Top {
         time: fields.time,
-        ask: fields.ask,
-        askvolume: fields.askvolume,
-        bid: fields.bid,
-        bidvolume: fields.bidvolume,
+        ask: fields.ask.price,
+        askvolume: fields.ask.volume,
+        bid: fields.bid.price,
+        bidvolume: fields.bid.volume,
         unsolicited: fields.unsolicited,
     };
     let symbol = fields.symbol;
@@ -213,13 +210,13 @@ fn of_trade(fields: TradeFields) -> Message
 {
     let body = Body::Trade {
         time: fields.time,
-        side: fields.side,
-        quantity: fields.quantity,
-        price: fields.price,
+        side: fields.deal.side,
+        quantity: fields.deal.quantity,
+        price: fields.deal.price,
         execution: fields.execution,
         reserved: fields.reserved,
     };
-    let symbol = fields.symbol;
+    let symbol = fields.deal.symbol;
     about(symbol, body)
 }
 
@@ -235,7 +232,7 @@ pub fn fields(s: &[u8], kind: u8) -> Message
         20 => of_trading_session(message_layouts::trading_session(s)),
         21 => of_add(message_layouts::add(s)),
         22 => of_update(message_layouts::update(s)),
-        23 => of_delete(message_layouts::delete(s)),
+        23 => of_delete(message_layouts::named(s)),
         24 => of_execution(message_layouts::execution(s)),
         25 => of_priced(message_layouts::priced(s)),
         26 => of_top(message_layouts::top(s)),

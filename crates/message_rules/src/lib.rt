@@ -3,6 +3,7 @@
 // they take whether it keeps its rule: who has its value knows that already.
 ghost use mathlib.Core.Path.{_≡_};
 ghost use mathlib.Core.List.{[], _∷_, map};
+ghost use Prim.Native.Nat.{_+_, _<_};
 ghost use Rattle.fields.specs.Rules.{goodSymbol, goodSide, goodTradeSide, goodQuantity, goodPrice, goodInsidePrice, goodUnsolicited, goodSession};
 ghost use Rattle.message.specs.Row.{priceOf, typeOfTerms};
 ghost use Rattle.message.specs.Rules.{brokenBy, brokenOf, firstAt, goodMessage, number};
@@ -32,6 +33,17 @@ pub fn trading_session(session: u8) -> u8
     first(good_session(session), 11, 0)
 }
 
+// What an Order Add offers and a Trade exchanged, from the quantity on, which stands at `at`: of the side
+// before it each has a rule of its own.
+fn deal(at: u8, quantity: u32, symbol: [u8; 14], price: u64, behind: u8) -> u8
+    requires { ⌜ at + 18 < 256 ⌝ }
+    ensures { λ r. ⌜ r ≡ firstAt (goodQuantity quantity) at (firstAt (goodSymbol symbol) (at + 4) (firstAt (goodPrice price) (at + 18) behind)) ⌝ }
+{
+    let priced = first(good_price(price), at + 18, behind);
+    let about = first(good_symbol(symbol), at + 4, priced);
+    first(good_quantity(quantity), at, about)
+}
+
 pub fn add(
     named: bool,
     side: u8,
@@ -43,10 +55,8 @@ pub fn add(
     ensures { λ r. ⌜ r ≡ brokenBy 21 (named ∷ goodSide side ∷ goodQuantity quantity ∷ goodSymbol symbol ∷ goodPrice price ∷ goodUnsolicited unsolicited ∷ []) ⌝ }
 {
     let told = first(good_unsolicited(unsolicited), 52, 0);
-    let priced = first(good_price(price), 40, told);
-    let about = first(good_symbol(symbol), 26, priced);
-    let sized = first(good_quantity(quantity), 22, about);
-    let sided = first(good_side(side), 21, sized);
+    let dealt = deal(22, quantity, symbol, price, told);
+    let sided = first(good_side(side), 21, dealt);
     first(named, 7, sided)
 }
 
@@ -91,10 +101,8 @@ pub fn top(symbol: [u8; 14], ask: u64, bid: u64, unsolicited: u8) -> u8
 pub fn trade(side: u8, quantity: u32, symbol: [u8; 14], price: u64) -> u8
     ensures { λ r. ⌜ r ≡ brokenBy 27 (goodTradeSide side ∷ goodQuantity quantity ∷ goodSymbol symbol ∷ goodPrice price ∷ []) ⌝ }
 {
-    let priced = first(good_price(price), 26, 0);
-    let about = first(good_symbol(symbol), 12, priced);
-    let sized = first(good_quantity(quantity), 8, about);
-    first(good_trade_side(side), 7, sized)
+    let dealt = deal(8, quantity, symbol, price, 0);
+    first(good_trade_side(side), 7, dealt)
 }
 
 // An execution, at the published price or at its own.

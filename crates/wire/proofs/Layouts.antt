@@ -97,7 +97,7 @@ decode-fits (f ∷ fs) at s bytes h =
     (value-holds f at s bytes (omega arith), decode-fits fs (at + sizeOf f) s bytes (omega arith))
 
 -- fields put one behind the other, from the k-th byte behind a place on, and from a place on
-abbrev behind : List Field → List Value → List ℕ → ℕ → ℕ → List ℕ
+abbrev pub behind : List Field → List Value → List ℕ → ℕ → ℕ → List ℕ
 behind [] vs s at k = s
 behind (f ∷ fs) [] s at k = s
 behind (f ∷ fs) (v ∷ vs) s at k = behind fs vs (splice s (at + k) (bytesOf f v)) at (k + sizeOf f)
@@ -159,4 +159,14 @@ parts-row fs gs vs us s at h room e d =
     ∙ ap (λ (l : List ℕ). splice l (at + widthOf fs) (encode gs us)) e
     ∙ ap (λ (k : ℕ). splice (splice s at (encode fs vs)) (at + k) (encode gs us)) (sym (length-encode fs vs h))
     ∙ splice-next s at (encode fs vs) (encode gs us) room
+    ∙ ap (splice s at) (sym (encode-append fs gs vs us h))
+
+-- a row put, then fields put one behind the other
+pub row-then : (fs gs : List Field) (vs us : List Value) (s : List ℕ) (at : ℕ) {t u : List ℕ} → Sized fs vs → Sized gs us → at ≤ length s → t ≡ putRow fs vs s at → u ≡ behind gs us t at (widthOf fs) → u ≡ putRow (fs ++ gs) (vs ++ us) s at
+unfolding putRow
+row-then fs gs vs us s at h k room e d =
+    d
+    ∙ ap (λ (l : List ℕ). behind gs us l at (widthOf fs)) e
+    ∙ ap (λ (n : ℕ). behind gs us (splice s at (encode fs vs)) at n) (sym (length-encode fs vs h))
+    ∙ behind-splice gs us s at (encode fs vs) k room
     ∙ ap (splice s at) (sym (encode-append fs gs vs us h))

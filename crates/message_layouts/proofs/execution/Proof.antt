@@ -5,7 +5,7 @@ use Rattle.message_layouts.proofs.execution.Statement.{statement}
 use Rattle.message_layouts.proofs.execution.Tie as tie
 
 returns : tie.Need-returns
-returns c = (let remaining = c .before in let executed = remaining .before in let id = executed .before in let time = id .before in λ i. record { time = time .u32-at .ensures i; id = id .text14-at .ensures i; executed = executed .u32-at2 .ensures i; remaining = remaining .u32-at3 .ensures i; execution = c .u64-at .ensures i })
+returns c = (let remaining = c .before in let executed = remaining .before in let named = executed .before in λ i. record { named = named .named .ensures i; executed = executed .u32-at .ensures i; remaining = remaining .u32-at2 .ensures i; execution = c .u64-at .ensures i })
 
 pub execution-spec : {M : Type 1} → statement M
 execution-spec =
@@ -15,5 +15,4 @@ execution-spec =
     (λ c κs. within tt (c .before .before .pre))
     (λ c κs. within tt (c .before .before .before .pre))
     (λ c κs. within tt (c .before .before .before .before .pre))
-    (λ c κs. within tt (c .before .before .before .before .before .pre))
     returns)

@@ -5,7 +5,7 @@ use Rattle.message_layouts.proofs.priced.Statement.{statement}
 use Rattle.message_layouts.proofs.priced.Tie as tie
 
 returns : tie.Need-returns
-returns c = (let execution = c .before in let remaining = execution .before in let executed = remaining .before in let id = executed .before in let time = id .before in λ i. record { time = time .u32-at .ensures i; id = id .text14-at .ensures i; executed = executed .u32-at2 .ensures i; remaining = remaining .u32-at3 .ensures i; execution = execution .u64-at .ensures i; price = c .u64-at2 .ensures i })
+returns c = (let execution = c .before in λ i. record { execution = execution .execution .ensures i; price = c .u64-at .ensures i })
 
 pub priced-spec : {M : Type 1} → statement M
 priced-spec =
@@ -13,8 +13,4 @@ priced-spec =
     (tie.spec
     (λ c κs. within tt (c .before .pre))
     (λ c κs. within tt (c .before .before .pre))
-    (λ c κs. within tt (c .before .before .before .pre))
-    (λ c κs. within tt (c .before .before .before .before .pre))
-    (λ c κs. within tt (c .before .before .before .before .before .pre))
-    (λ c κs. within tt (c .before .before .before .before .before .before .pre))
     returns)

@@ -5,7 +5,7 @@ use Rattle.message_layouts.proofs.update.Statement.{statement}
 use Rattle.message_layouts.proofs.update.Tie as tie
 
 returns : tie.Need-returns
-returns c = (let price = c .before in let quantity = price .before in let id = quantity .before in let time = id .before in λ i. record { time = time .u32-at .ensures i; id = id .text14-at .ensures i; quantity = quantity .u32-at2 .ensures i; price = price .u64-at .ensures i; flags = c .u16-at .ensures i })
+returns c = (let price = c .before in let quantity = price .before in let named = quantity .before in λ i. record { named = named .named .ensures i; quantity = quantity .u32-at .ensures i; price = price .u64-at .ensures i; flags = c .u16-at .ensures i })
 
 pub update-spec : {M : Type 1} → statement M
 update-spec =
@@ -15,5 +15,4 @@ update-spec =
     (λ c κs. within tt (c .before .before .pre))
     (λ c κs. within tt (c .before .before .before .pre))
     (λ c κs. within tt (c .before .before .before .before .pre))
-    (λ c κs. within tt (c .before .before .before .before .before .pre))
     returns)

@@ -11,11 +11,11 @@ returns : tie.Need-returns
 unfolding insideOf fieldsOf messageOf layoutOf
 returns c =
     λ i. record {
-      ask = c .before .before .before .before .top .ensures i .ask;
-      bid = c .before .before .before .before .top .ensures i .bid;
+      ask = c .before .before .before .before .top .ensures i .ask .price;
+      bid = c .before .before .before .before .top .ensures i .bid .price;
       time = c .before .before .before .before .top .ensures i .time;
-      askvolume = c .before .before .before .before .top .ensures i .askvolume;
-      bidvolume = c .before .before .before .before .top .ensures i .bidvolume;
+      askvolume = c .before .before .before .before .top .ensures i .ask .volume;
+      bidvolume = c .before .before .before .before .top .ensures i .bid .volume;
       symbol = c .before .before .before .before .top .ensures i .symbol;
       unsolicited = c .before .before .before .before .top .ensures i .unsolicited;
     }

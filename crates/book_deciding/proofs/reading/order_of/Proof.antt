@@ -12,11 +12,11 @@ unfolding orderOf fieldsOf messageOf layoutOf
 returns c =
     λ i. record {
       id = c .before .before .before .before .pre .value i;
-      price = c .before .before .add .ensures i .price;
-      shares = c .before .before .add .ensures i .quantity;
+      price = c .before .before .add .ensures i .deal .price;
+      shares = c .before .before .add .ensures i .deal .quantity;
       firm = c .before .before .add .ensures i .firm;
-      symbol = c .before .before .add .ensures i .symbol;
-      side = c .before .before .add .ensures i .side;
+      symbol = c .before .before .add .ensures i .deal .symbol;
+      side = c .before .before .add .ensures i .deal .side;
       unsolicited = c .before .before .add .ensures i .unsolicited;
     }
 

@@ -46,7 +46,7 @@ fields-spec =
     (λ c. search needs)
     (λ c. kind-put _ _ _ _ _ (c .before .before .before .before .before .body6 .given .1) (c .before .before .update .ensures))
     (λ c. search needs)
-    (λ c. kind-put _ _ _ _ _ (c .before .before .before .before .before .body7 .given .1) (c .before .before .delete .ensures))
+    (λ c. kind-put _ _ _ _ _ (c .before .before .before .before .before .body7 .given .1) (c .before .before .named .ensures))
     (λ c. search needs)
     (λ c. kind-put _ _ _ _ _ (c .before .before .before .before .before .body8 .given .1) (c .before .before .of-execution .ensures))
     (λ c. search needs)

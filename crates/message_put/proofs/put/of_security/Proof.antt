@@ -6,7 +6,10 @@ use Rattle.message_put.proofs.put.of_security.Statement.{statement}
 use Rattle.message_put.proofs.put.of_security.Tie as tie
 
 returns : tie.Need-returns
-returns c = parts-row _ _ _ _ _ _ (search needs) (search needs) (c .before .before .before .before .before .before .security-front .ensures) (c .before .before .security-back .ensures)
+returns c =
+    let back = c .before .before in
+    let front = back .before .before .before .before in
+    parts-row _ _ _ _ _ _ (search needs) (search needs) (front .security-front .ensures) (back .security-back .ensures)
 
 pub of-security-spec : {M : Type 1} → statement M
 of-security-spec =

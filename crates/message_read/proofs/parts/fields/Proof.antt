@@ -43,7 +43,7 @@ fields-spec =
     (λ c. made _ ofTradingSession (c .before .before .match .keys4) (c .of-trading-session .ensures) (c .before .trading-session .ensures) refl)
     (λ c. made _ ofAdd (c .before .before .match .keys5) (c .of-add .ensures) (c .before .add .ensures) refl)
     (λ c. made _ ofUpdate (c .before .before .match .keys6) (c .of-update .ensures) (c .before .update .ensures) refl)
-    (λ c. made _ ofDelete (c .before .before .match .keys7) (c .of-delete .ensures) (c .before .delete .ensures) refl)
+    (λ c. made _ ofDelete (c .before .before .match .keys7) (c .of-delete .ensures) (c .before .named .ensures) refl)
     (λ c. made _ ofExecution (c .before .before .match .keys8) (c .of-execution .ensures) (c .before .execution .ensures) refl)
     (λ c. made _ ofPriced (c .before .before .match .keys9) (c .of-priced .ensures) (c .before .priced .ensures) refl)
     (λ c. made _ ofTop (c .before .before .match .keys10) (c .of-top .ensures) (c .before .top .ensures) refl)
