@@ -39,7 +39,6 @@ use Rattle.session.proofs.state.Session.open.Reads as session-open
 use Rattle.session.proofs.packets.take.Reads as session-take
 use Rattle.session.proofs.packets.burst.Reads as session-burst
 use Rattle.session.proofs.passing.pass.Reads as session-pass
-use Rattle.session.proofs.quoting.quotes.Reads as session-quotes
 use Rattle.session.proofs.asking.next.Reads as session-next
 use Rattle.session.proofs.asking.end.Reads as session-end
 use Rattle.session.proofs.asking.code.Reads as session-code
@@ -191,8 +190,6 @@ pub record Sessions : Type 0 where
   -- with whatever session it is held
   pub session-pass-room : (κs : _) (a : _) (one other : _) (s t : _) → session-pass.Post κs a one s → session-pass.Post κs a other t → (session : Session) → Ruled (held session (now (a .0)) (now (a .1 .0))) → now (s .0) ≡ now (t .0)
   pub session-pass-window : (κs : _) (a : _) (one other : _) (s t : _) → session-pass.Post κs a one s → session-pass.Post κs a other t → (session : Session) → Ruled (held session (now (a .0)) (now (a .1 .0))) → now (s .1 .0) ≡ now (t .1 .0)
-  pub session-quotes-once : Once session-quotes.Post
-  pub session-quotes-replies : Fixes session-quotes.Post (λ κs r s. now (s .1 .1 .1 .0))
   pub session-next-once : Once session-next.Post
   pub session-end-once : Once session-end.Post
   pub session-code-once : Once session-code.Post
@@ -220,8 +217,6 @@ sessions =
       session-pass-once = named (λ κs a r s p. p .0);
       session-pass-room = λ κs a one other s t p q session rule. room-of (once (p .1 .0 session rule) (q .1 .0 session rule));
       session-pass-window = λ κs a one other s t p q session rule. window-of (once (p .1 .0 session rule) (q .1 .0 session rule));
-      session-quotes-once = named (λ κs a r s p. p .0);
-      session-quotes-replies = named (λ κs a r s p. p .1);
       session-next-once = named (λ κs a r s p. p);
       session-end-once = named (λ κs a r s p. p);
       session-code-once = named (λ κs a r s p. p);
