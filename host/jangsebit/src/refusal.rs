@@ -38,6 +38,7 @@ macro_rules! numbered {
         impl TryFrom<u8> for $kind {
             type Error = UnknownNumber;
 
+            #[inline]
             fn try_from(number: u8) -> Result<$kind, UnknownNumber> {
                 match number {
                     $($number => Ok($kind::$name),)*

@@ -335,6 +335,7 @@ impl Faults {
     /// assert_eq!(session.numbers().faults.first(), Some((5, Fault::UnlistedType)));
     /// assert_eq!(session.numbers().next, 6);
     /// ```
+    #[inline]
     pub fn first(&self) -> Option<(u64, Fault)> {
         match Fault::try_from(self.reason) {
             Ok(fault) if self.count > 0 => Some((self.number, fault)),
