@@ -109,7 +109,7 @@ module _ {M : Type 1} (𝓤 : URA M) (H : Heap 𝓤) (A : Atoms 𝓤) (W : Given
         -- [replies; questions; room; the fractured borrow; the tokens, the last first]
         enter ! (𝓣 .C) (𝓣 .Λ) code.function (vptr b o ∷ vptr (p₁ .ptr .0) (p₁ .ptr .1) ∷ sliceVal (p₂ .ptr) (length (p₂ .now)) ∷ sliceVal (b₃, o₃) (length rs₀) ∷ []) _ $
         alloc1 ! (λ l₀. alloc1 ! (λ l₁. alloc1 ! (λ l₂. alloc1 ! (λ l₃. alloc1 ! (λ l₄. alloc1 ! (λ l₅. alloc1 ! (λ l₆. alloc1 ! (λ l₇. alloc1 ! (λ l₈. alloc1 ! (λ l₉. alloc1 ! (λ l₁₀. alloc1 ! (λ l₁₁. alloc1 ! (λ l₁₂. alloc1 ! (λ l₁₃. alloc1 ! (λ l₁₄. alloc1 ! (λ l₁₅. alloc1 ! (λ l₁₆. alloc1 ! (λ l₁₇. alloc1 ! (λ l₁₈. alloc0 ! $ params1 ! $
-        passing (record { κ = κ; κ₁ = κ₁; κ₂ = κ₂; κ₃ = κ₃; q = q; q₁ = q₁; q₂ = q₂; q₃ = q₃; part = q; b = b; o = o; h = h; p₁ = p₁; p₂ = p₂; b₃ = b₃; o₃ = o₃; n₃ = length rs₀; γ₃ = γ₃; l₀ = l₀; l₁ = l₁; l₂ = l₂; l₃ = l₃; l₄ = l₄; l₅ = l₅; l₆ = l₆; l₇ = l₇; l₈ = l₈; l₉ = l₉; l₁₀ = l₁₀; l₁₁ = l₁₁; l₁₂ = l₁₂; l₁₃ = l₁₃; l₁₄ = l₁₄; l₁₅ = l₁₅; l₁₆ = l₁₆; l₁₇ = l₁₇; l₁₈ = l₁₈ }) rs₀ 𝓤 H A W at-mem run 𝓣 start-known none-known met-known reach-known (live-few (rule .1)) space asked-room refl Post exits)))))))))))))))))))
+        passing (record { κ = κ; κ₁ = κ₁; κ₂ = κ₂; κ₃ = κ₃; q = q; q₁ = q₁; q₂ = q₂; q₃ = q₃; part = q; b = b; o = o; h = h; p₁ = p₁; p₂ = p₂; b₃ = b₃; o₃ = o₃; n₃ = length rs₀; γ₃ = γ₃; locals = l₀ ∷ l₁ ∷ l₂ ∷ l₃ ∷ l₄ ∷ l₅ ∷ l₆ ∷ l₇ ∷ l₈ ∷ l₉ ∷ l₁₀ ∷ l₁₁ ∷ l₁₂ ∷ l₁₃ ∷ l₁₄ ∷ l₁₅ ∷ l₁₆ ∷ l₁₇ ∷ l₁₈ ∷ [] }) rs₀ 𝓤 H A W at-mem run 𝓣 start-known none-known met-known reach-known (live-few (rule .1)) space asked-room refl Post exits)))))))))))))))))))
 
 module _ {M : Type 1} (𝓤 : URA M) (H : Heap 𝓤) (A : Atoms 𝓤) (W : Given 𝓤 H A) (at-mem : Memory → SProp 𝓤) (run : Routine → Fun 𝓤) where
   goes : AllGo 𝓤 H A W 4 (f.signature .params) (f.ended .kept) stayed

@@ -54,7 +54,7 @@ use Rattle.session_quotes.proofs.questions.Quest as Qt
 use Rattle.session_quotes.proofs.questions.Quest.Laws as Qt′
 use Rattle.session_quotes.proofs.met.Symbol.{name as #met}
 use Rattle.session_quotes.proofs.questions.reach.Symbol.{name as #reach}
-use Rattle.session_quotes.proofs.quotes.Proof.Frame.{Spots, Γ, En, asking, replying, questAt, levelAt, leftAt, noLeft}
+use Rattle.session_quotes.proofs.quotes.Proof.Frame.{Spots, Γ, En, l, asking, replying, questAt, levelAt, leftAt, noLeft}
 use Rattle.session_quotes.proofs.quotes.Proof.Plain as Plain
 use Rattle.session_quotes.proofs.quotes.Proof.Reach as Reach
 use types.Tokens.{obor-close}
@@ -80,7 +80,7 @@ abbrev asked-for : Code
 asked-for = tail (tail (tail (tail (tail turn-2))))
 
 module _ (z : Spots) (rs₀ : List ℕ) where
-  open Spots z using (κ, κ₁, κ₂, κ₃, q, q₁, q₂, q₃, part, b, o, h, p₁, p₂, b₃, o₃, n₃, γ₃, l₀, l₁, l₂, l₃, l₄, l₅, l₆, l₇, l₈, l₉, l₁₀, l₁₁, l₁₂, l₁₃, l₁₄, l₁₅, l₁₆, l₁₇, l₁₈)
+  open Spots z using (κ, κ₁, κ₂, κ₃, q, q₁, q₂, q₃, part, b, o, h, p₁, p₂, b₃, o₃, n₃, γ₃)
 
   abbrev tables : Tables
   tables = tablesIn h (p₁ .now)
@@ -124,7 +124,7 @@ module _ (z : Spots) (rs₀ : List ℕ) where
           use1 W (later (some (λ (r : Level). given (r ≡ noLevel) (‵ (Lv.the-row .own r (v ∷ [])))))) (Plain.none-gives 𝓤 H A W at-mem run v) $ await ! tt $ pick ! (λ r. learn ! (λ e.
           peeks ! Lv.the-row (Is Lv.the-row) (shows 𝓤 H A Lv.the-row) r (v ∷ []) (λ level-is. drop ! $
           land ! (from ! (stop !)) (store ! 14 refl (LL.lawful Lv.the-type Lv′.the-laws 𝓤 H A W .typed r _ level-is .0)) $
-          rewrite ! 14 (λ (u : Val). ‵ (fat fullShare Lv′.mir l₆ 0 u)) (ap only (LL.tells Lv.the-type Lv′.the-laws r (v ∷ []) level-is)) refl $
+          rewrite ! 14 (λ (u : Val). ‵ (fat fullShare Lv′.mir (l z 6) 0 u)) (ap only (LL.tells Lv.the-type Lv′.the-laws r (v ∷ []) level-is)) refl $
           assigns ! (of-opd ! (load ! (from ! (fld ! refl (stop !))) (look-in ! 13 (sub ! 3 refl (whole !))))) (from ! (stop !)) (init ! 15 refl (tt, record { fits = omega (arith, small) })) $
           blocks ! $ by ! (looked z quest symbol 𝓤 H A W at-mem run 𝓣 met-known small many quest-is rs apart (afterBlock 𝓤 H (afterTurn 𝓤 H X Left)) onward
           (record { left = quest .live; level = r; is = subst (Is Lv.the-row r) (LL.tells Lv.the-type Lv′.the-laws r (v ∷ []) level-is) level-is; going = best-start symbol (quest .side) (h .orders) small many e }))))))
@@ -201,7 +201,7 @@ module _ (z : Spots) (rs₀ : List ℕ) where
             -- [questions; token; the replies' token; replies; the question; the orders; behind them; the open borrow; the room's token; the locals]
             move ! (4 ∷ []) $ peeks ! Qt.the-row (Is Qt.the-row) (shows 𝓤 H A Qt.the-row) (x .r) (v ∷ []) (λ is. drop ! $
             land ! (from ! (stop !)) (store ! 13 refl (LL.lawful Qt.the-type Qt′.the-laws 𝓤 H A W .typed (x .r) _ is .0)) $
-            rewrite ! 13 (λ (u : Val). ‵ (fat fullShare Qt′.mir l₅ 0 u)) (ap only (LL.tells Qt.the-type Qt′.the-laws (x .r) (v ∷ []) is)) refl $
+            rewrite ! 13 (λ (u : Val). ‵ (fat fullShare Qt′.mir (l z 5) 0 u)) (ap only (LL.tells Qt.the-type Qt′.the-laws (x .r) (v ∷ []) is)) refl $
             assigns ! (un ! (load ! (from ! (fld ! refl (stop !))) (look-in ! 13 (sub ! 0 refl (whole !)))) tt) (from ! (stop !)) (init ! 21 refl (tt, tt)) $
             first ! $ branches ! (load ! (from ! (stop !)) (look ! 21 refl))
             (λ yes. jumps ! $ forget ! 19 refl $ forget ! 20 refl $ forget ! 21 refl $ keep ! (4 ∷ 5 ∷ 6 ∷ 0 ∷ 1 ∷ 3 ∷ 2 ∷ 7 ∷ 8 ∷ 9 ∷ 10 ∷ 11 ∷ 12 ∷ 13 ∷ 14 ∷ 15 ∷ 16 ∷ 17 ∷ 18 ∷ 19 ∷ 20 ∷ 21 ∷ 22 ∷ 23 ∷ 24 ∷ 25 ∷ 26 ∷ 27 ∷ 28 ∷ 29 ∷ 30 ∷ 31 ∷ 32 ∷ 33 ∷ 34 ∷ 35 ∷ 36 ∷ 37 ∷ 38 ∷ 39 ∷ 40 ∷ 41 ∷ 42 ∷ 43 ∷ 44 ∷ 45 ∷ []) $

@@ -54,7 +54,7 @@ use Rattle.session_quotes.proofs.questions.Quest as Qt
 use Rattle.session_quotes.proofs.questions.Quest.Laws as Qt′
 use Rattle.session_quotes.proofs.met.Symbol.{name as #met}
 use Rattle.session_quotes.proofs.questions.reach.Symbol.{name as #reach}
-use Rattle.session_quotes.proofs.quotes.Proof.Frame.{Spots, Γ, En, asking, replying, questAt, levelAt, leftAt, noLeft}
+use Rattle.session_quotes.proofs.quotes.Proof.Frame.{Spots, Γ, En, l, asking, replying, questAt, levelAt, leftAt, noLeft}
 use Rattle.session_quotes.proofs.quotes.Proof.Plain as Plain
 use Rattle.session_quotes.proofs.quotes.Proof.Reach as Reach
 use Rattle.session_quotes.proofs.quotes.Code.Mir.{turn-1}
@@ -71,7 +71,7 @@ wide40 : (i : ℕ) → i < 256 → i * 40 < 2 ^ 64
 wide40 i lt = omega (arith, lt)
 
 module _ (z : Spots) (quest : Quest) (symbol : List ℕ) where
-  open Spots z using (κ, κ₁, κ₂, κ₃, q, q₁, q₂, q₃, part, b, o, h, p₁, p₂, b₃, o₃, n₃, γ₃, l₀, l₁, l₂, l₃, l₄, l₅, l₆, l₇, l₈, l₉, l₁₀, l₁₁, l₁₂, l₁₃, l₁₄, l₁₅, l₁₆, l₁₇, l₁₈)
+  open Spots z using (κ, κ₁, κ₂, κ₃, q, q₁, q₂, q₃, part, b, o, h, p₁, p₂, b₃, o₃, n₃, γ₃)
 
   -- where the loop is between two turns
   pub record State : Type 0 where
@@ -128,7 +128,7 @@ module _ (z : Spots) (quest : Quest) (symbol : List ℕ) where
           use1 W (later (some (λ (r : Level). given (Plain.Joined 𝓤 H A W at-mem run quest order (t .level) r) (‵ (Lv.the-row .own r (v ∷ [])))))) (Plain.met-gives 𝓤 H A W at-mem run quest order (t .level) v) $ await ! tt $ pick ! (λ r. learn ! (λ joined.
           peeks ! Lv.the-row (Is Lv.the-row) (shows 𝓤 H A Lv.the-row) r (v ∷ []) (λ level-is. drop ! $
           land-last ! (from ! (stop !)) (store ! 14 refl (LL.lawful Lv.the-type Lv′.the-laws 𝓤 H A W .typed r _ level-is .0)) $
-          rewrite ! 14 (λ (u : Val). ‵ (fat fullShare Lv′.mir l₆ 0 u)) (ap only (LL.tells Lv.the-type Lv′.the-laws r (v ∷ []) level-is)) refl $
+          rewrite ! 14 (λ (u : Val). ‵ (fat fullShare Lv′.mir (l z 6) 0 u)) (ap only (LL.tells Lv.the-type Lv′.the-laws r (v ∷ []) level-is)) refl $
           forget ! 16 refl $ forget ! 23 refl $ forget ! 24 refl $ forget ! 25 refl $ forget ! 26 refl $
           by ! (onward r (subst (Is Lv.the-row r) (LL.tells Lv.the-type Lv′.the-laws r (v ∷ []) level-is) level-is) joined))))))
 

@@ -53,7 +53,7 @@ use Rattle.session_quotes.proofs.questions.Quest as Qt
 use Rattle.session_quotes.proofs.questions.Quest.Laws as Qt′
 use Rattle.session_quotes.proofs.met.Symbol.{name as #met}
 use Rattle.session_quotes.proofs.questions.reach.Symbol.{name as #reach}
-use Rattle.session_quotes.proofs.quotes.Proof.Frame.{Spots, Γ, En, asking, replying, questAt, levelAt, leftAt, noLeft}
+use Rattle.session_quotes.proofs.quotes.Proof.Frame.{Spots, Γ, En, l, asking, replying, questAt, levelAt, leftAt, noLeft}
 use Rattle.session_quotes.proofs.quotes.Proof.Plain as Plain
 use Rattle.session_quotes.proofs.quotes.Proof.Reach as Reach
 use base.Fml.{fdies, fshr-bor}
@@ -73,7 +73,7 @@ use Rattle.session_quotes.proofs.quotes.Proof.Asking.{asking-all, Same}
 use Rattle.session_quotes.proofs.quotes.Code.Mir.{t-1}
 
 module _ (z : Spots) (rs₀ : List ℕ) where
-  open Spots z using (κ, κ₁, κ₂, κ₃, q, q₁, q₂, q₃, part, b, o, h, p₁, p₂, b₃, o₃, n₃, γ₃, l₀, l₁, l₂, l₃, l₄, l₅, l₆, l₇, l₈, l₉, l₁₀, l₁₁, l₁₂, l₁₃, l₁₄, l₁₅, l₁₆, l₁₇, l₁₈)
+  open Spots z using (κ, κ₁, κ₂, κ₃, q, q₁, q₂, q₃, part, b, o, h, p₁, p₂, b₃, o₃, n₃, γ₃, locals)
 
   -- what is owned, with the room, before the first statement
   abbrev pub Γ₀ : {M : Type 1} (𝓤 : URA M) (H : Heap 𝓤) (A : Atoms 𝓤) (W : Given 𝓤 H A) → List (Item 𝓤)
@@ -110,64 +110,64 @@ module _ (z : Spots) (rs₀ : List ℕ) where
         peeks ! Qt.the-row (Is Qt.the-row) (shows 𝓤 H A Qt.the-row) r (v ∷ []) (λ quest-is. drop ! $
         -- [the room's token; the orders; behind them; the open borrow; questions; token; replies; token; the locals]
         land ! (from ! (stop !)) (init ! 13 refl (LL.lawful Qt.the-type Qt′.the-laws 𝓤 H A W .typed r _ quest-is .0)) $
-        rewrite ! 13 (λ (u : Val). ‵ (fat fullShare Qt′.mir l₅ 0 u)) (ap only (LL.tells Qt.the-type Qt′.the-laws r (v ∷ []) quest-is)) refl $
+        rewrite ! 13 (λ (u : Val). ‵ (fat fullShare Qt′.mir (l z 5) 0 u)) (ap only (LL.tells Qt.the-type Qt′.the-laws r (v ∷ []) quest-is)) refl $
         use0 W (raw (Plain.None 𝓤 H A W at-mem run .pre (Plain.to-none 𝓤 H A W at-mem run))) (Plain.none-asks 𝓤 H A W at-mem run) $
         calls-at ! fm (Plain.None 𝓤 H A W at-mem run) none-known (Plain.to-none 𝓤 H A W at-mem run) (no-more !) (λ v′.
-        use1 W (later (some (λ (l : Level). given (l ≡ no-level) (‵ (Lv.the-row .own l (v′ ∷ [])))))) (Plain.none-gives 𝓤 H A W at-mem run v′) $ await ! tt $ pick ! (λ l. learn ! (λ f.
-        peeks ! Lv.the-row (Is Lv.the-row) (shows 𝓤 H A Lv.the-row) l (v′ ∷ []) (λ level-is. drop ! $
-        land ! (from ! (stop !)) (init ! 14 refl (LL.lawful Lv.the-type Lv′.the-laws 𝓤 H A W .typed l _ level-is .0)) $
-        rewrite ! 14 (λ (u : Val). ‵ (fat fullShare Lv′.mir l₆ 0 u)) (ap only (LL.tells Lv.the-type Lv′.the-laws l (v′ ∷ []) level-is)) refl $
+        use1 W (later (some (λ (lv : Level). given (lv ≡ no-level) (‵ (Lv.the-row .own lv (v′ ∷ [])))))) (Plain.none-gives 𝓤 H A W at-mem run v′) $ await ! tt $ pick ! (λ lv. learn ! (λ f.
+        peeks ! Lv.the-row (Is Lv.the-row) (shows 𝓤 H A Lv.the-row) lv (v′ ∷ []) (λ level-is. drop ! $
+        land ! (from ! (stop !)) (init ! 14 refl (LL.lawful Lv.the-type Lv′.the-laws 𝓤 H A W .typed lv _ level-is .0)) $
+        rewrite ! 14 (λ (u : Val). ‵ (fat fullShare Lv′.mir (l z 6) 0 u)) (ap only (LL.tells Lv.the-type Lv′.the-laws lv (v′ ∷ []) level-is)) refl $
         forget ! 17 refl $ forget ! 18 refl $ keep ! (1 ∷ 2 ∷ 3 ∷ 4 ∷ 5 ∷ 6 ∷ 7 ∷ 0 ∷ 8 ∷ 9 ∷ 10 ∷ 11 ∷ 12 ∷ 13 ∷ 14 ∷ 15 ∷ 16 ∷ 17 ∷ 18 ∷ 19 ∷ 20 ∷ 21 ∷ 22 ∷ 23 ∷ 24 ∷ 25 ∷ 26 ∷ 27 ∷ 28 ∷ 29 ∷ 30 ∷ 31 ∷ 32 ∷ 33 ∷ 34 ∷ 35 ∷ 36 ∷ 37 ∷ 38 ∷ 39 ∷ 40 ∷ 41 ∷ 42 ∷ 43 ∷ 44 ∷ 45 ∷ []) $
         first ! $ blocks ! $ by ! (asking-all z rs₀ 𝓤 H A W at-mem run 𝓣 none-known met-known reach-known few many space Post ends
-        (record { rs = rs₀; quest = r; level = l; quest-is = subst (Is Qt.the-row r) (LL.tells Qt.the-type Qt′.the-laws r (v ∷ []) quest-is) quest-is; level-is = subst (Is Lv.the-row l) (LL.tells Lv.the-type Lv′.the-laws l (v′ ∷ []) level-is) level-is; wide = wide; same = begun r e; reaching = reaching r l e }))))))))))
+        (record { rs = rs₀; quest = r; level = lv; quest-is = subst (Is Qt.the-row r) (LL.tells Qt.the-type Qt′.the-laws r (v ∷ []) quest-is) quest-is; level-is = subst (Is Lv.the-row lv) (LL.tells Lv.the-type Lv′.the-laws lv (v′ ∷ []) level-is) level-is; wide = wide; same = begun r e; reaching = reaching r lv e }))))))))))
 
 -- the parameters are stored, and the session's borrow is opened
 module _ (z : Spots) (rs₀ : List ℕ) where
-  open Spots z using (κ, κ₁, κ₂, κ₃, q, q₁, q₂, q₃, b, o, h, p₁, p₂, b₃, o₃, n₃, γ₃, l₀, l₁, l₂, l₃, l₄, l₅, l₆, l₇, l₈, l₉, l₁₀, l₁₁, l₁₂, l₁₃, l₁₄, l₁₅, l₁₆, l₁₇, l₁₈)
+  open Spots z using (κ, κ₁, κ₂, κ₃, q, q₁, q₂, q₃, b, o, h, p₁, p₂, b₃, o₃, n₃, γ₃, locals)
 
   module _ {M : Type 1} (𝓤 : URA M) (H : Heap 𝓤) (A : Atoms 𝓤) (W : Given 𝓤 H A) (at-mem : Memory → SProp 𝓤) (run : Routine → Fun 𝓤) (𝓣 : Runs 𝓤 H) (start-known : Triple 𝓤 (𝓣 .C #start) (Plain.Start 𝓤 H A W at-mem run))
       (none-known : Triple 𝓤 (𝓣 .C #none) (Plain.None 𝓤 H A W at-mem run)) (met-known : Triple 𝓤 (𝓣 .C #met) (Plain.Met 𝓤 H A W at-mem run)) (reach-known : Triple 𝓤 (𝓣 .C #reach) (Reach.Callee 𝓤 H A at-mem run))
       (few : liveIn (p₁ .now) ≤ 256) (space : Room u64 n₃) (asked-room : Room u8 (length (p₂ .now))) (wide : length rs₀ ≡ n₃) (Post : Val → SProp 𝓤)
       (ends : (rs : List ℕ) (refusal : ℕ) → length rs ≡ n₃ → refusal ≡ quotedOf (length (p₂ .now)) (length rs₀) → refusal < 2 ^ 64 → rs ≡ quotesAfter (tablesIn h (p₁ .now)) (p₂ .now) rs₀ → ent 𝓤 (⋆ 𝓤 H A (‵ (flft κ q) ∷ asking z 𝓤 H A W ∷ ‵ (flft κ₂ q₂) ∷ replying z 𝓤 H A W rs ∷ ‵ (flft κ₃ q₃) ∷ ‵ (flft κ₁ q₁) ∷ [])) (Post (vint w64 refusal))) where
     pub passing : Seq (Go {0}) W (
-        ‵ (froom Or′.mir l₁₈ 0)
-        ∷ ‵ (fdies Or′.mir l₁₈)
-        ∷ ‵ (froom tyPtr l₁₇ 0)
-        ∷ ‵ (fdies tyPtr l₁₇)
-        ∷ ‵ (froom tyPtr l₁₆ 0)
-        ∷ ‵ (fdies tyPtr l₁₆)
-        ∷ ‵ (froom (tyInt w64) l₁₅ 0)
-        ∷ ‵ (fdies (tyInt w64) l₁₅)
-        ∷ ‵ (froom tyBool l₁₄ 0)
-        ∷ ‵ (fdies tyBool l₁₄)
-        ∷ ‵ (froom tyBool l₁₃ 0)
-        ∷ ‵ (fdies tyBool l₁₃)
-        ∷ ‵ (froom (sliceTy (tyRef erased mut (tyInt w64))) l₁₂ 0)
-        ∷ ‵ (fdies (sliceTy (tyRef erased mut (tyInt w64))) l₁₂)
-        ∷ ‵ (froom (tyRef erased mut (tyInt w64)) l₁₁ 0)
-        ∷ ‵ (fdies (tyRef erased mut (tyInt w64)) l₁₁)
-        ∷ ‵ (froom (tyInt w64) l₁₀ 0)
-        ∷ ‵ (fdies (tyInt w64) l₁₀)
-        ∷ ‵ (froom (tyInt w64) l₉ 0)
-        ∷ ‵ (fdies (tyInt w64) l₉)
-        ∷ ‵ (froom Or′.mir l₈ 0)
-        ∷ ‵ (fdies Or′.mir l₈)
-        ∷ ‵ (froom (tyInt w64) l₇ 0)
-        ∷ ‵ (fdies (tyInt w64) l₇)
-        ∷ ‵ (froom Lv′.mir l₆ 0)
-        ∷ ‵ (fdies Lv′.mir l₆)
-        ∷ ‵ (froom Qt′.mir l₅ 0)
-        ∷ ‵ (fdies Qt′.mir l₅)
-        ∷ ‵ (froom (sliceTy (tyRef (named 3) mut (tyInt w64))) l₄ 0)
-        ∷ ‵ (fdies (sliceTy (tyRef (named 3) mut (tyInt w64))) l₄)
-        ∷ ‵ (froom (sliceTy (tyRef (named 2) imm (tyInt w8))) l₃ 0)
-        ∷ ‵ (fdies (sliceTy (tyRef (named 2) imm (tyInt w8))) l₃)
-        ∷ ‵ (froom (tyRef (named 1) imm (tyArray (tyInt w64) 2306)) l₂ 0)
-        ∷ ‵ (fdies (tyRef (named 1) imm (tyArray (tyInt w64) 2306)) l₂)
-        ∷ ‵ (froom (tyRef (named 0) imm (pointee (T.the-row .written))) l₁ 0)
-        ∷ ‵ (fdies (tyRef (named 0) imm (pointee (T.the-row .written))) l₁)
-        ∷ ‵ (froom (tyInt w64) l₀ 0)
-        ∷ ‵ (fdies (tyInt w64) l₀)
+        ‵ (froom Or′.mir (l z 18) 0)
+        ∷ ‵ (fdies Or′.mir (l z 18))
+        ∷ ‵ (froom tyPtr (l z 17) 0)
+        ∷ ‵ (fdies tyPtr (l z 17))
+        ∷ ‵ (froom tyPtr (l z 16) 0)
+        ∷ ‵ (fdies tyPtr (l z 16))
+        ∷ ‵ (froom (tyInt w64) (l z 15) 0)
+        ∷ ‵ (fdies (tyInt w64) (l z 15))
+        ∷ ‵ (froom tyBool (l z 14) 0)
+        ∷ ‵ (fdies tyBool (l z 14))
+        ∷ ‵ (froom tyBool (l z 13) 0)
+        ∷ ‵ (fdies tyBool (l z 13))
+        ∷ ‵ (froom (sliceTy (tyRef erased mut (tyInt w64))) (l z 12) 0)
+        ∷ ‵ (fdies (sliceTy (tyRef erased mut (tyInt w64))) (l z 12))
+        ∷ ‵ (froom (tyRef erased mut (tyInt w64)) (l z 11) 0)
+        ∷ ‵ (fdies (tyRef erased mut (tyInt w64)) (l z 11))
+        ∷ ‵ (froom (tyInt w64) (l z 10) 0)
+        ∷ ‵ (fdies (tyInt w64) (l z 10))
+        ∷ ‵ (froom (tyInt w64) (l z 9) 0)
+        ∷ ‵ (fdies (tyInt w64) (l z 9))
+        ∷ ‵ (froom Or′.mir (l z 8) 0)
+        ∷ ‵ (fdies Or′.mir (l z 8))
+        ∷ ‵ (froom (tyInt w64) (l z 7) 0)
+        ∷ ‵ (fdies (tyInt w64) (l z 7))
+        ∷ ‵ (froom Lv′.mir (l z 6) 0)
+        ∷ ‵ (fdies Lv′.mir (l z 6))
+        ∷ ‵ (froom Qt′.mir (l z 5) 0)
+        ∷ ‵ (fdies Qt′.mir (l z 5))
+        ∷ ‵ (froom (sliceTy (tyRef (named 3) mut (tyInt w64))) (l z 4) 0)
+        ∷ ‵ (fdies (sliceTy (tyRef (named 3) mut (tyInt w64))) (l z 4))
+        ∷ ‵ (froom (sliceTy (tyRef (named 2) imm (tyInt w8))) (l z 3) 0)
+        ∷ ‵ (fdies (sliceTy (tyRef (named 2) imm (tyInt w8))) (l z 3))
+        ∷ ‵ (froom (tyRef (named 1) imm (tyArray (tyInt w64) 2306)) (l z 2) 0)
+        ∷ ‵ (fdies (tyRef (named 1) imm (tyArray (tyInt w64) 2306)) (l z 2))
+        ∷ ‵ (froom (tyRef (named 0) imm (pointee (T.the-row .written))) (l z 1) 0)
+        ∷ ‵ (fdies (tyRef (named 0) imm (pointee (T.the-row .written))) (l z 1))
+        ∷ ‵ (froom (tyInt w64) (l z 0) 0)
+        ∷ ‵ (fdies (tyInt w64) (l z 0))
         ∷ replying z 𝓤 H A W rs₀
         ∷ asking z 𝓤 H A W
         ∷ housing z 𝓤 H A W
@@ -175,10 +175,10 @@ module _ (z : Spots) (rs₀ : List ℕ) where
         ∷ ‵ (flft κ₃ q₃)
         ∷ ‵ (flft κ₂ q₂)
         ∷ ‵ (flft κ₁ q₁)
-        ∷ ‵ (flft κ q) ∷ []) (passes ((tyRef (named 0) imm (pointee (T.the-row .written)), l₁) ∷ (tyRef (named 1) imm (tyArray (tyInt w64) 2306), l₂) ∷ (sliceTy (tyRef (named 2) imm (tyInt w8)), l₃) ∷ (sliceTy (tyRef (named 3) mut (tyInt w64)), l₄) ∷ (Qt′.mir, l₅) ∷ (Lv′.mir, l₆) ∷ (tyInt w64, l₇) ∷ (Or′.mir, l₈) ∷ (tyInt w64, l₉) ∷ (tyInt w64, l₁₀) ∷ (tyRef erased mut (tyInt w64), l₁₁) ∷ (sliceTy (tyRef erased mut (tyInt w64)), l₁₂) ∷ (tyBool, l₁₃) ∷ (tyBool, l₁₄) ∷ (tyInt w64, l₁₅) ∷ (tyPtr, l₁₆) ∷ (tyPtr, l₁₇) ∷ (Or′.mir, l₁₈) ∷ []) (vptr b o ∷ vptr (p₁ .ptr .0) (p₁ .ptr .1) ∷ sliceVal (p₂ .ptr) (length (p₂ .now)) ∷ sliceVal (b₃, o₃) n₃ ∷ []) (runs′ (𝓣 .C) (𝓣 .Λ) (En z 𝓤 H A W) t-1 (atRet (En z 𝓤 H A W) Post)))
+        ∷ ‵ (flft κ q) ∷ []) (passes ((tyRef (named 0) imm (pointee (T.the-row .written)), l z 1) ∷ (tyRef (named 1) imm (tyArray (tyInt w64) 2306), l z 2) ∷ (sliceTy (tyRef (named 2) imm (tyInt w8)), l z 3) ∷ (sliceTy (tyRef (named 3) mut (tyInt w64)), l z 4) ∷ (Qt′.mir, l z 5) ∷ (Lv′.mir, l z 6) ∷ (tyInt w64, l z 7) ∷ (Or′.mir, l z 8) ∷ (tyInt w64, l z 9) ∷ (tyInt w64, l z 10) ∷ (tyRef erased mut (tyInt w64), l z 11) ∷ (sliceTy (tyRef erased mut (tyInt w64)), l z 12) ∷ (tyBool, l z 13) ∷ (tyBool, l z 14) ∷ (tyInt w64, l z 15) ∷ (tyPtr, l z 16) ∷ (tyPtr, l z 17) ∷ (Or′.mir, l z 18) ∷ []) (vptr b o ∷ vptr (p₁ .ptr .0) (p₁ .ptr .1) ∷ sliceVal (p₂ .ptr) (length (p₂ .now)) ∷ sliceVal (b₃, o₃) n₃ ∷ []) (runs′ (𝓣 .C) (𝓣 .Λ) (En z 𝓤 H A W) t-1 (atRet (En z 𝓤 H A W) Post)))
     passing =
         pass1 ! (init ! 34 refl (tt, tt)) $ pass1 ! (init ! 32 refl (tt, tt)) $ pass1 ! (init ! 30 refl (tt, (tt, (record { fits = asked-room .0 }, tt)))) $ pass1 ! (init ! 28 refl (tt, (tt, (record { fits = space .0 }, tt)))) $ pass0 ! $
         move ! (41 ∷ 45 ∷ []) $ shr-bor-open ! tt (part-halves 𝓤 H A W T.the-row (Is T.the-row) (shows 𝓤 H A T.the-row) (LL.vals T.the-type T′.the-laws) (LL.tells T.the-type T′.the-laws) (LL.copy T.the-type T′.the-copy 𝓤 H A W) h b o) (λ part.
         move ! (1 ∷ []) $ use1 W (given (length (h .orders) ≡ 256) (‵ (row PS part (elems (h .orders)) b (o + 0)) ⊛ raw (Behind 𝓤 H A W part b o))) (opened-up 𝓤 H A W part b o h) $ learn ! (λ many. split ! $
         keep ! (43 ∷ 0 ∷ 1 ∷ 2 ∷ 42 ∷ 45 ∷ 41 ∷ 44 ∷ 46 ∷ 39 ∷ 37 ∷ 35 ∷ 33 ∷ 31 ∷ 29 ∷ 27 ∷ 25 ∷ 23 ∷ 21 ∷ 19 ∷ 17 ∷ 15 ∷ 13 ∷ 11 ∷ 9 ∷ 7 ∷ 5 ∷ 3 ∷ 40 ∷ 38 ∷ 36 ∷ 34 ∷ 32 ∷ 30 ∷ 28 ∷ 26 ∷ 24 ∷ 22 ∷ 20 ∷ 18 ∷ 16 ∷ 14 ∷ 12 ∷ 10 ∷ 8 ∷ 6 ∷ 4 ∷ []) $
-        by ! (starting (record { κ = κ; κ₁ = κ₁; κ₂ = κ₂; κ₃ = κ₃; q = q; q₁ = q₁; q₂ = q₂; q₃ = q₃; part = part; b = b; o = o; h = h; p₁ = p₁; p₂ = p₂; b₃ = b₃; o₃ = o₃; n₃ = n₃; γ₃ = γ₃; l₀ = l₀; l₁ = l₁; l₂ = l₂; l₃ = l₃; l₄ = l₄; l₅ = l₅; l₆ = l₆; l₇ = l₇; l₈ = l₈; l₉ = l₉; l₁₀ = l₁₀; l₁₁ = l₁₁; l₁₂ = l₁₂; l₁₃ = l₁₃; l₁₄ = l₁₄; l₁₅ = l₁₅; l₁₆ = l₁₆; l₁₇ = l₁₇; l₁₈ = l₁₈ }) rs₀ 𝓤 H A W at-mem run 𝓣 start-known none-known met-known reach-known few many space asked-room wide Post ends)))
+        by ! (starting (record { κ = κ; κ₁ = κ₁; κ₂ = κ₂; κ₃ = κ₃; q = q; q₁ = q₁; q₂ = q₂; q₃ = q₃; part = part; b = b; o = o; h = h; p₁ = p₁; p₂ = p₂; b₃ = b₃; o₃ = o₃; n₃ = n₃; γ₃ = γ₃; locals = locals }) rs₀ 𝓤 H A W at-mem run 𝓣 start-known none-known met-known reach-known few many space asked-room wide Post ends)))
