@@ -2,4 +2,3 @@
 pub mod Told
 pub mod Spots
 pub mod Handed
-pub mod Passed

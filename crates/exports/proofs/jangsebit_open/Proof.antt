@@ -51,7 +51,7 @@ use Rattle.exports.proofs.taking.open as g
 use Rattle.exports.proofs.taking.open.Symbol as g-def
 use Rattle.exports.proofs.taking.open.Symbol.{name as #callee}
 use Rattle.exports.proofs.taking.open.Met as g-thm
-use Rattle.exports.proofs.Passed.{passed, goes-passed, one, and-one, says-all}
+use Rattle.session_lent.proofs.Passed.{passed, goes-passed, one, and-one, says-all}
 use Rattle.exports.proofs.jangsebit_open.Key.{name as #own}
 use Rattle.exports.proofs.jangsebit_open as f
 use Rattle.exports.proofs.jangsebit_open.Statement as stated

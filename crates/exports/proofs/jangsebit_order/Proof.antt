@@ -70,7 +70,7 @@ use Rattle.exports.proofs.asking.tell_at as te
 use Rattle.exports.proofs.asking.tell_at.Symbol as te-def
 use Rattle.exports.proofs.asking.tell_at.Symbol.{name as #tell}
 use Rattle.exports.proofs.asking.tell_at.Met as te-thm
-use Rattle.exports.proofs.Passed.{passed, goes-passed, one, and-one, says-all}
+use Rattle.session_lent.proofs.Passed.{passed, goes-passed, one, and-one, says-all}
 use Rattle.exports.proofs.jangsebit_order.Key.{name as #own}
 use Rattle.exports.proofs.jangsebit_order as f
 use Rattle.exports.proofs.jangsebit_order.Statement as stated

@@ -51,7 +51,7 @@ use Rattle.exports.specs.Handed.{planOf, toldOf}
 use Rattle.exports.specs.declared.taking.Plan.{Plan}
 use Rattle.exports.proofs.taking.Plan as Pl
 use Rattle.exports.proofs.taking.Plan.Laws as Pl′
-use Rattle.exports.proofs.Passed.{one, and-one, says-all}
+use Rattle.session_lent.proofs.Passed.{one, and-one, says-all}
 use contract.Running.{givenOf, tables, tablesOf}
 use types.Kit.{feqL, fsplit3}
 use types.Run.{look, init, forget, stop, hop, fld, from, load, addr, unit-lit, and-then, no-more, of-opd, assigns, land, returns, enter, alloc1, alloc0, params1, pass1, pass0, free1, free0}
@@ -79,7 +79,7 @@ use Rattle.session.proofs.Calls.{burst-runs, rule-packets}
 use Rattle.session.proofs.Runs.{bytes-of}
 use Rattle.exports.specs.Handed.{answersBy, takenBy, takenTold}
 use Rattle.exports.proofs.Handed.{rows-all, taken-all, told-all}
-use Rattle.exports.proofs.Passed.{passed, goes-passed}
+use Rattle.session_lent.proofs.Passed.{passed, goes-passed}
 use Rattle.exports.proofs.taking.make_plan.Symbol as plan-def
 use Rattle.exports.proofs.taking.make_plan.Symbol.{name as #plan}
 use Rattle.exports.proofs.taking.make_plan.Met as plan-thm

@@ -45,7 +45,7 @@ use Rattle.session_quotes.proofs.quotes as g
 use Rattle.session_quotes.proofs.quotes.Symbol as g-def
 use Rattle.session_quotes.proofs.quotes.Symbol.{name as #callee}
 use Rattle.session_quotes.proofs.quotes.Met as g-thm
-use Rattle.exports.proofs.Passed.{passed, goes-passed, one, and-one, says-all}
+use Rattle.session_lent.proofs.Passed.{passed, goes-passed, one, and-one, says-all}
 use Rattle.exports.proofs.jangsebit_quotes.Key.{name as #own}
 use Rattle.exports.proofs.jangsebit_quotes as f
 use Rattle.exports.proofs.jangsebit_quotes.Statement as stated

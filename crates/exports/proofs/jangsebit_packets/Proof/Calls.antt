@@ -49,7 +49,7 @@ use Rattle.exports.specs.Handed.{planOf, toldOf}
 use Rattle.exports.specs.declared.taking.Plan.{Plan}
 use Rattle.exports.proofs.taking.Plan as Pl
 use Rattle.exports.proofs.taking.Plan.Laws as Pl′
-use Rattle.exports.proofs.Passed.{one, and-one, says-all}
+use Rattle.session_lent.proofs.Passed.{one, and-one, says-all}
 use Rattle.exports.proofs.taking.make_plan as mak
 use Rattle.exports.proofs.taking.tell as tel
 use Rattle.session_lent.proofs.run as ran
