@@ -68,7 +68,7 @@ module _ (b : Book) (s : List ℕ) (kept : Kept b) {key : ℕ} {topic : List ℕ
     (value : key ≡ numberOf (messageIn s .id)) (about : topic ≡ topicOf (messageIn s))
     {order inside : Found} (found : order ≡ keyAt key (take (b .live) (b .keys)))
     (looked : inside ≡ symbolAt topic (take (b .held) (b .fronts)) (take (b .held) (b .backs)))
-    {at : ℕ} (spot : at ≡ placeFound order) where
+    {at : ℕ} (place-is : at ≡ placeFound order) where
   abbrev t : Tables
   t = view b
 
@@ -87,7 +87,7 @@ module _ (b : Book) (s : List ℕ) (kept : Kept b) {key : ℕ} {topic : List ℕ
   there-seen f none =
       ap (λ (l : List Order). f (getD l at blank)) (orders-are b (kept .same))
       ∙ past f none (t .orders) at
-      ∙ ap (λ (k : ℕ). f (getD (t .orders) k blank)) (spot ∙ ap placeFound order-seen)
+      ∙ ap (λ (k : ℕ). f (getD (t .orders) k blank)) (place-is ∙ ap placeFound order-seen)
 
   pub seen-is : _≡_ {A = Seen} (record { live = b .live; order = order; shares = getD (b .orders) at blank .shares; price = getD (b .orders) at blank .price; held = b .held; inside = inside })
       (seenOf t (messageIn s))
@@ -97,11 +97,11 @@ module _ (b : Book) (s : List ℕ) (kept : Kept b) {key : ℕ} {topic : List ℕ
 
 -- the look-up's place is one of the book's
 pub found-within : (keys : List ℕ) (live key : ℕ) {order : Found} {at : ℕ} → live ≤ 256 → order ≡ keyAt key (take live keys) → at ≡ placeFound order → at < 256
-found-within keys live key fits found spot =
+found-within keys live key fits found place-is =
     let xs = take live keys in
     let few : length xs ≤ live = simp length-take (omega arith) in
     let h : placeFound (keyAt key xs) < 256 = found-any (keyAt key xs) 256 (lit< tt) (λ e. let r = key-below key xs e in omega arith) in
-    rw (spot, found) h
+    rw (place-is, found) h
 
 -- ---- what follows from the effect
 

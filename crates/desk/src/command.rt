@@ -21,13 +21,13 @@ pub enum Command {
     Walk,
 }
 
-pub fn of(line: &[u8]) -> Command
+pub fn command_of(line: &[u8]) -> Command
     ensures { λ r. ⌜ r ≡ commandOf (countOf (now (line .entry))) (wordOf (now (line .entry)) 0) ⌝ }
 {
     let word = words::word(line, 0);
     match words::count(line) {
         1 => named(word, b"state", Command::State),
-        2 => of_one(word),
+        2 => one_command(word),
         3 => named(word, b"best", Command::Best),
         4 => named(word, b"rewrite", Command::Rewrite),
         7 => named(word, b"rehead", Command::Rehead),
@@ -35,7 +35,7 @@ pub fn of(line: &[u8]) -> Command
     }
 }
 
-fn is(word: &[u8], name: &[u8]) -> bool
+fn is_name(word: &[u8], name: &[u8]) -> bool
     ensures { λ r. ⌜ r ≡ isName (now (word .entry)) (now (name .entry)) ⌝ }
 {
     check::same(word, name)
@@ -44,45 +44,45 @@ fn is(word: &[u8], name: &[u8]) -> bool
 fn named(word: &[u8], name: &[u8], command: Command) -> Command
     ensures { λ r. ⌜ r ≡ namedOf (now (word .entry)) (now (name .entry)) command ⌝ }
 {
-    if is(word, name) {
+    if is_name(word, name) {
         return command;
     }
     Command::Bad
 }
 
 // The commands of one word more.
-fn of_one(word: &[u8]) -> Command
+fn one_command(word: &[u8]) -> Command
     ensures { λ r. ⌜ r ≡ oneCommand (now (word .entry)) ⌝ }
 {
-    if is(word, b"open") {
+    if is_name(word, b"open") {
         return Command::Open;
     }
-    if is(word, b"take") {
+    if is_name(word, b"take") {
         return Command::Take;
     }
-    if is(word, b"order") {
+    if is_name(word, b"order") {
         return Command::Order;
     }
-    if is(word, b"inside") {
+    if is_name(word, b"inside") {
         return Command::Inside;
     }
-    if is(word, b"requests") {
+    if is_name(word, b"requests") {
         return Command::Requests;
     }
-    of_bytes(word)
+    bytes_command(word)
 }
 
 // Those that need no session.
-fn of_bytes(word: &[u8]) -> Command
+fn bytes_command(word: &[u8]) -> Command
     ensures { λ r. ⌜ r ≡ bytesCommand (now (word .entry)) ⌝ }
 {
-    if is(word, b"value") {
+    if is_name(word, b"value") {
         return Command::Value;
     }
-    if is(word, b"header") {
+    if is_name(word, b"header") {
         return Command::Header;
     }
-    if is(word, b"message") {
+    if is_name(word, b"message") {
         return Command::Message;
     }
     named(word, b"walk", Command::Walk)

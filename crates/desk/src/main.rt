@@ -46,7 +46,7 @@ fn carry_out(session: Session, room: &mut Room, window: &mut Window, line: &[u8]
     requires { ⌜ Ruled (held session (now room) (now window)) ⌝ }
     ensures { λ r. ⌜ Ruled (held r (now (room .exit)) (now (window .exit))) ⌝ }
 {
-    let command = command::of(line);
+    let command = command::command_of(line);
     match command {
         Command::Open => moves::open(session, room, window, line),
         Command::Take => moves::take(session, room, window, line),

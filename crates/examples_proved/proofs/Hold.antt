@@ -12,7 +12,7 @@ use Rattle.merge.specs.State.{applyUpTo, copyOf, freedAt, keep, keptAt, opened,
 use Rattle.message.specs.Layouts.{layoutOf}
 use Rattle.message.specs.Reading.{readOf}
 use Rattle.message.specs.Row.{fieldsOf, messageOf}
-use Rattle.message.specs.Rules.{brokenOf, firstAt}
+use Rattle.message.specs.Rules.{brokenOf, brokenOr}
 use Rattle.message.specs.Table.{payloadOf}
 use Rattle.packet.specs.Header.{flagTests, headerTests}
 use Rattle.packet.specs.Judging.{bodyTests, packetTests}
@@ -24,5 +24,5 @@ use Rattle.window.specs.Window.{agreeing}
 use Rattle.examples_proved.specs.Examples.{all, examples}
 
 pub hold : all examples ≡ true
-unfolding seenOf effectOf orderOf insideOf without faulted applyUnder keyFrom keyAt sameSymbol pairFrom symbolAt isDigit digitOf goodId valueOf numberOf idAnswer goodSymbol between either firstAll copyOf opened keptAt keep freedAt step applyUpTo takeIf takeOne takeAll layoutOf readOf messageOf fieldsOf brokenOf firstAt payloadOf flagTests headerTests bodyTests packetTests brokenAt walkFrom framesFrom packetIn differFrom takeTests judge runsFrom requestsOf agreeing gapsOf
+unfolding seenOf effectOf orderOf insideOf without faulted applyUnder keyFrom keyAt sameSymbol pairFrom symbolAt isDigit digitOf goodId valueOf numberOf idAnswer goodSymbol between either firstAll copyOf opened keptAt keep freedAt step applyUpTo takeIf takeOne takeAll layoutOf readOf messageOf fieldsOf brokenOf brokenOr payloadOf flagTests headerTests bodyTests packetTests brokenAt walkFrom framesFrom packetIn differFrom takeTests judge runsFrom requestsOf agreeing gapsOf
 hold = refl

@@ -1,6 +1,6 @@
 -- What `exports` promises: the packets that lent bytes are, and the numbers in which an export tells its answer.
 pub mod Told
-pub mod Spots
+pub mod OrderPlaces
 pub mod Handed
 pub mod Passed
 pub mod Sizes

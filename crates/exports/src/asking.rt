@@ -25,7 +25,7 @@ ghost use Rattle.session.specs.Asking.{gapFrom, gapsOf, lineIn};
 ghost use Rattle.session.specs.Quoting.{refusalIn};
 ghost use Rattle.session.specs.declared.state.Session.{Session as Table};
 ghost use Rattle.single.specs.Over.{over};
-ghost use Rattle.exports.specs.Spots.{noSpot, replyAt, Spotted};
+ghost use Rattle.exports.specs.OrderPlaces.{noPlace, replyAt, Located};
 ghost use Rattle.exports.specs.Told.{askedRefusal, askedTold, firmNumber, gapNumbers, insideNumbers, insideTold, numbersIn, orderNumbers, orderTold};
 
 // Told are next, end, how many orders are live and insides held, the code of the last Trading Session, and of the
@@ -36,12 +36,14 @@ pub extern "C" fn jangsebit_numbers(room: &Room, told: &mut [u64; 8])
 {
     let next = session::asking::next(room);
     let end = session::asking::end(room);
+    let live = room[LIVE];
+    let held = room[HELD];
     let code = session::asking::code(room);
     let faults = session::asking::faults(room);
     told[0] = next;
     told[1] = end;
-    told[2] = room[LIVE];
-    told[3] = room[HELD];
+    told[2] = live;
+    told[3] = held;
     told[4] = code;
     told[5] = faults.number;
     told[6] = faults.count;
@@ -70,39 +72,39 @@ fn tell_order(told: &mut [u64; 8], order: Order)
 }
 
 // Where the order of an id is live: the refusal, and the place where it is 0.
-pub struct Spot {
+pub struct OrderPlace {
     pub refusal: u64,
     pub place: usize,
 }
 
-fn no_spot(refusal: u64) -> Spot
-    ensures { λ r. ⌜ r ≡ noSpot refusal ⌝ }
+fn no_place(refusal: u64) -> OrderPlace
+    ensures { λ r. ⌜ r ≡ noPlace refusal ⌝ }
 {
-    Spot { refusal, place: 0 }
+    OrderPlace { refusal, place: 0 }
 }
 
-pub fn locate(room: &Room, id: &[u8; 14]) -> Spot
+pub fn locate(room: &Room, id: &[u8; 14]) -> OrderPlace
     requires { ⌜ ((session : Table) × (window : List ℕ) × Ruled (held session (now room) window)) ⌝ }
-    ensures { λ r. ⌜ ((session : Table) (window : List ℕ) → Ruled (held session (now (room .entry)) window) → Spotted session (now (room .entry)) (now (id .entry)) r) ⌝ }
+    ensures { λ r. ⌜ ((session : Table) (window : List ℕ) → Ruled (held session (now (room .entry)) window) → Located session (now (room .entry)) (now (id .entry)) r) ⌝ }
 {
     let IdValue::Value(key) = value(*id) else {
-        return no_spot(12);
+        return no_place(12);
     };
     let Found::At(place) = found(room, key) else {
-        return no_spot(13);
+        return no_place(13);
     };
-    Spot { refusal: 0, place }
+    OrderPlace { refusal: 0, place }
 }
 
-// The order at the spot; nothing where it is refused.
-pub fn tell_at(told: &mut [u64; 8], spot: Spot, there: Order) -> u64
-    ensures refusal { λ r. ⌜ r ≡ refusalIn (replyAt spot there .reply) ⌝ }
-    ensures told { λ r. ⌜ now (told .exit) ≡ orderTold (replyAt spot there) (now (told .entry)) ⌝ }
+// The order where it is live; nothing where that is refused.
+pub fn tell_at(told: &mut [u64; 8], located: OrderPlace, there: Order) -> u64
+    ensures refusal { λ r. ⌜ r ≡ refusalIn (replyAt located there .reply) ⌝ }
+    ensures told { λ r. ⌜ now (told .exit) ≡ orderTold (replyAt located there) (now (told .entry)) ⌝ }
 {
-    if spot.refusal == 0 {
+    if located.refusal == 0 {
         tell_order(told, there);
     }
-    spot.refusal
+    located.refusal
 }
 
 fn tell_inside(told: &mut [u64; 6], inside: Inside)

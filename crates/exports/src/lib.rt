@@ -96,9 +96,9 @@ pub extern "C" fn jangsebit_order(
     ensures refusal { λ r. ⌜ r ≡ refusalIn (orderAsked (tablesIn (now (session .entry)) (now (room .entry))) (now (id .entry)) .reply) ⌝ }
     ensures told { λ r. ⌜ now (told .exit) ≡ orderTold (orderAsked (tablesIn (now (session .entry)) (now (room .entry))) (now (id .entry))) (now (told .entry)) ⌝ }
 {
-    let spot = asking::locate(room, id);
-    let there = session.orders[spot.place];
-    asking::tell_at(told, spot, there)
+    let located = asking::locate(room, id);
+    let there = session.orders[located.place];
+    asking::tell_at(told, located, there)
 }
 
 // The best prices of many symbols and sides, 15 bytes a question. Four numbers answer each: the refusal or 0, the

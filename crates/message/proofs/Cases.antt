@@ -16,7 +16,7 @@ use Rattle.fields.specs.Table.{tabulate}
 use Rattle.fields.proofs.Table.{entry}
 use Rattle.message.specs.Layouts.{head, layoutOf}
 use Rattle.message.specs.Row.{bare, fieldsOf, messageOf, priceOf, typeOfTerms}
-use Rattle.message.specs.Rules.{FieldRule, brokenBy, brokenOf, firstAt, firstBroken, keeps, number, placed, rulesOf}
+use Rattle.message.specs.Rules.{FieldRule, brokenBy, brokenOf, brokenOr, firstBroken, keeps, number, placed, rulesOf}
 use Rattle.message.specs.Table.{below, payloadOf, payloads, payloadTable, tooShort}
 use Rattle.message.specs.declared.kinds.Body.the-variants.{Execution, Other}
 use Rattle.message.specs.declared.kinds.Terms.{Terms}
@@ -29,11 +29,11 @@ pub kind-is : (m : Message) {b : Body} {r : ℕ} → m .body ≡ b → r ≡ bro
 kind-is m e h = h ∙ ap (λ (b : Body). brokenOf (record { id = m .id; symbol = m .symbol; firm = m .firm; body = b })) (sym e)
 
 -- the first test by what it comes to, and the tests behind it
-pub first-is : {r behind last : ℕ} {k t : Bool} (at : ℕ) → r ≡ firstAt k at behind → k ≡ t → behind ≡ last → r ≡ firstAt t at last
-first-is at r e rest = r ∙ (λ i. firstAt (e i) at (rest i))
+pub broken-is : {r behind last : ℕ} {k t : Bool} (at : ℕ) → r ≡ brokenOr k at behind → k ≡ t → behind ≡ last → r ≡ brokenOr t at last
+broken-is at r e rest = r ∙ (λ i. brokenOr (e i) at (rest i))
 
-pub tested : {r : ℕ} {k t : Bool} (at behind : ℕ) → r ≡ firstAt k at behind → k ≡ t → r ≡ firstAt t at behind
-tested at behind r e = first-is at r e refl
+pub tested : {r : ℕ} {k t : Bool} (at behind : ℕ) → r ≡ brokenOr k at behind → k ≡ t → r ≡ brokenOr t at behind
+tested at behind r e = broken-is at r e refl
 
 -- an execution by its terms, and in a message
 pub terms-are : {terms t : Terms} {r : ℕ} (named : Bool) (executed : ℕ) → terms ≡ t → r ≡ brokenBy (typeOfTerms t) (named ∷ goodQuantity executed ∷ map (number goodPrice) (priceOf t)) → r ≡ brokenBy (typeOfTerms terms) (named ∷ goodQuantity executed ∷ map (number goodPrice) (priceOf terms))
@@ -50,11 +50,11 @@ placed-none at [] = refl
 placed-none at (f ∷ fs) = refl
 
 none-broken : {fields : List (ℕ × Value)} → fields ≡ [] → (rows : List FieldRule) → 0 ≡ firstBroken rows (map (keeps fields) rows)
-unfolding firstAt
+unfolding brokenOr
 none-broken none [] = refl
 none-broken {fields} none (row ∷ rows) =
     none-broken none rows
-    ∙ ap (λ (k : Bool). firstAt k (row .0) (firstBroken rows (map (keeps fields) rows))) (sym (ap (λ (l : List (ℕ × Value)). keeps l row) none))
+    ∙ ap (λ (k : Bool). brokenOr k (row .0) (firstBroken rows (map (keeps fields) rows))) (sym (ap (λ (l : List (ℕ × Value)). keeps l row) none))
 
 pub other-is : (id symbol firm : List ℕ) (type : ℕ) → 0 ≡ brokenOf (record { id = id; symbol = symbol; firm = firm; body = Other type })
 unfolding brokenOf

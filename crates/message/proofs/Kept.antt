@@ -6,7 +6,7 @@ use mathlib.Core.List.{List, [], _∷_}
 use Prim.Native.Nat.{ℕ}
 use borrow.Author.Tests.{eq-eqb, eqb-true}
 use lib.Dec.{T, eqb}
-use Rattle.message.specs.Rules.{FieldRule, brokenBy, firstAt, firstBroken, rulesOf}
+use Rattle.message.specs.Rules.{FieldRule, brokenBy, brokenOr, firstBroken, rulesOf}
 
 -- every test is passed
 abbrev pub AllKept : List Bool → Type 0
@@ -28,7 +28,7 @@ not-first : (b more : Bool) → b ≡ true → T (cond b false more) → ⊥
 not-first b more e h = subst (λ (x : Bool). T (cond x false more)) e h
 
 none-left : (rows : List FieldRule) (kept : List Bool) → T (suits rows kept) → firstBroken rows kept ≡ 0 → AllKept kept
-unfolding firstAt
+unfolding brokenOr
 none-left [] [] h e = tt
 none-left [] (k ∷ kept) h e = absurd h
 none-left (rule ∷ rest) [] h e = absurd h

@@ -50,15 +50,15 @@ abbrev pub keeps : List (ℕ × Value) → FieldRule → Bool
 keeps fields rule = listedAt (rule .0) (map (λ (field : ℕ × Value). (field .0, rule .1 (field .1))) fields) true
 
 -- a field that keeps its rule leaves the answer to the fields behind it; one that breaks it answers its offset
-unfoldable pub firstAt : Bool → ℕ → ℕ → ℕ
-firstAt kept at behind = cond kept behind at
+unfoldable pub brokenOr : Bool → ℕ → ℕ → ℕ
+brokenOr kept at behind = cond kept behind at
 
 -- of rules, and whether each is kept: the offset of the first that is not, 0 where all are
 abbrev pub firstBroken : List FieldRule → List Bool → ℕ
 firstBroken [] [] = 0
 firstBroken [] (k ∷ kept) = 0
 firstBroken (rule ∷ rest) [] = 0
-firstBroken (rule ∷ rest) (k ∷ kept) = firstAt k (rule .0) (firstBroken rest kept)
+firstBroken (rule ∷ rest) (k ∷ kept) = brokenOr k (rule .0) (firstBroken rest kept)
 
 abbrev pub brokenBy : ℕ → List Bool → ℕ
 brokenBy type kept = firstBroken (rulesOf type) kept

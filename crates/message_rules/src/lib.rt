@@ -6,7 +6,7 @@ ghost use mathlib.Core.List.{[], _∷_, map};
 ghost use Prim.Native.Nat.{_+_, _<_};
 ghost use Rattle.fields.specs.Rules.{goodSymbol, goodSide, goodTradeSide, goodQuantity, goodPrice, goodInsidePrice, goodUnsolicited, goodSession};
 ghost use Rattle.message.specs.Row.{priceOf, typeOfTerms};
-ghost use Rattle.message.specs.Rules.{brokenBy, brokenOf, firstAt, goodMessage, number};
+ghost use Rattle.message.specs.Rules.{brokenBy, brokenOf, brokenOr, goodMessage, number};
 use fields::id::good_id;
 use fields_rules::good_inside_price;
 use fields_rules::good_price;
@@ -21,8 +21,8 @@ use message::Message;
 use message::Terms;
 
 // Where the field at `at` keeps its rule, what the fields behind it answer.
-fn first(kept: bool, at: u8, behind: u8) -> u8
-    ensures { λ r. ⌜ r ≡ firstAt kept at behind ⌝ }
+fn broken_or(kept: bool, at: u8, behind: u8) -> u8
+    ensures { λ r. ⌜ r ≡ brokenOr kept at behind ⌝ }
 {
     if kept { behind } else { at }
 }
@@ -30,18 +30,18 @@ fn first(kept: bool, at: u8, behind: u8) -> u8
 pub fn trading_session(session: u8) -> u8
     ensures { λ r. ⌜ r ≡ brokenBy 20 (goodSession session ∷ []) ⌝ }
 {
-    first(good_session(session), 11, 0)
+    broken_or(good_session(session), 11, 0)
 }
 
 // What an Order Add offers and a Trade exchanged, from the quantity on, which stands at `at`: of the side
 // before it each has a rule of its own.
 fn deal(at: u8, quantity: u32, symbol: [u8; 14], price: u64, behind: u8) -> u8
     requires { ⌜ at + 18 < 256 ⌝ }
-    ensures { λ r. ⌜ r ≡ firstAt (goodQuantity quantity) at (firstAt (goodSymbol symbol) (at + 4) (firstAt (goodPrice price) (at + 18) behind)) ⌝ }
+    ensures { λ r. ⌜ r ≡ brokenOr (goodQuantity quantity) at (brokenOr (goodSymbol symbol) (at + 4) (brokenOr (goodPrice price) (at + 18) behind)) ⌝ }
 {
-    let priced = first(good_price(price), at + 18, behind);
-    let about = first(good_symbol(symbol), at + 4, priced);
-    first(good_quantity(quantity), at, about)
+    let priced = broken_or(good_price(price), at + 18, behind);
+    let about = broken_or(good_symbol(symbol), at + 4, priced);
+    broken_or(good_quantity(quantity), at, about)
 }
 
 pub fn add(
@@ -54,55 +54,55 @@ pub fn add(
 ) -> u8
     ensures { λ r. ⌜ r ≡ brokenBy 21 (named ∷ goodSide side ∷ goodQuantity quantity ∷ goodSymbol symbol ∷ goodPrice price ∷ goodUnsolicited unsolicited ∷ []) ⌝ }
 {
-    let told = first(good_unsolicited(unsolicited), 52, 0);
+    let told = broken_or(good_unsolicited(unsolicited), 52, 0);
     let dealt = deal(22, quantity, symbol, price, told);
-    let sided = first(good_side(side), 21, dealt);
-    first(named, 7, sided)
+    let sided = broken_or(good_side(side), 21, dealt);
+    broken_or(named, 7, sided)
 }
 
 pub fn update(named: bool, quantity: u32, price: u64) -> u8
     ensures { λ r. ⌜ r ≡ brokenBy 22 (named ∷ goodQuantity quantity ∷ goodPrice price ∷ []) ⌝ }
 {
-    let priced = first(good_price(price), 25, 0);
-    let sized = first(good_quantity(quantity), 21, priced);
-    first(named, 7, sized)
+    let priced = broken_or(good_price(price), 25, 0);
+    let sized = broken_or(good_quantity(quantity), 21, priced);
+    broken_or(named, 7, sized)
 }
 
 pub fn delete(named: bool) -> u8
     ensures { λ r. ⌜ r ≡ brokenBy 23 (named ∷ []) ⌝ }
 {
-    first(named, 7, 0)
+    broken_or(named, 7, 0)
 }
 
 pub fn execution(named: bool, executed: u32) -> u8
     ensures { λ r. ⌜ r ≡ brokenBy 24 (named ∷ goodQuantity executed ∷ []) ⌝ }
 {
-    let sized = first(good_quantity(executed), 21, 0);
-    first(named, 7, sized)
+    let sized = broken_or(good_quantity(executed), 21, 0);
+    broken_or(named, 7, sized)
 }
 
 pub fn priced(named: bool, executed: u32, price: u64) -> u8
     ensures { λ r. ⌜ r ≡ brokenBy 25 (named ∷ goodQuantity executed ∷ goodPrice price ∷ []) ⌝ }
 {
-    let priced = first(good_price(price), 37, 0);
-    let sized = first(good_quantity(executed), 21, priced);
-    first(named, 7, sized)
+    let priced = broken_or(good_price(price), 37, 0);
+    let sized = broken_or(good_quantity(executed), 21, priced);
+    broken_or(named, 7, sized)
 }
 
 pub fn top(symbol: [u8; 14], ask: u64, bid: u64, unsolicited: u8) -> u8
     ensures { λ r. ⌜ r ≡ brokenBy 26 (goodSymbol symbol ∷ goodInsidePrice ask ∷ goodInsidePrice bid ∷ goodUnsolicited unsolicited ∷ []) ⌝ }
 {
-    let told = first(good_unsolicited(unsolicited), 45, 0);
-    let bidden = first(good_inside_price(bid), 33, told);
-    let asked = first(good_inside_price(ask), 21, bidden);
-    first(good_symbol(symbol), 7, asked)
+    let told = broken_or(good_unsolicited(unsolicited), 45, 0);
+    let bidden = broken_or(good_inside_price(bid), 33, told);
+    let asked = broken_or(good_inside_price(ask), 21, bidden);
+    broken_or(good_symbol(symbol), 7, asked)
 }
 
 pub fn trade(side: u8, quantity: u32, symbol: [u8; 14], price: u64) -> u8
     ensures { λ r. ⌜ r ≡ brokenBy 27 (goodTradeSide side ∷ goodQuantity quantity ∷ goodSymbol symbol ∷ goodPrice price ∷ []) ⌝ }
 {
     let dealt = deal(8, quantity, symbol, price, 0);
-    first(good_trade_side(side), 7, dealt)
+    broken_or(good_trade_side(side), 7, dealt)
 }
 
 // An execution, at the published price or at its own.

@@ -78,8 +78,8 @@ module _ {s : Held} (rule : Ruled s) where
       none-asked e = order-asked id (order-none tabled (lies .kept) id asked value there e)
 
       module _ {place : ℕ} (at : found ≡ At place) where
-        pub spot-few : place < 256
-        spot-few = omega (arith, order-within tabled (lies .kept) id asked value there at, lies .kept .live)
+        pub order-few : place < 256
+        order-few = omega (arith, order-within tabled (lies .kept) id asked value there at, lies .kept .live)
 
         pub known-asked : _≡_ {A = OrderReply} (record { reply = Known; order = getD (s .session .orders) place blank }) (orderAsked (tablesIn (s .session) (s .room)) id)
         known-asked =

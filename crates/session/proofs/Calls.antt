@@ -21,7 +21,7 @@ use Rattle.window.specs.Runs as runs
 use Rattle.window.specs.Runs.{IsRun, closed, firstFrom, limitOf, missingIn, runFrom, runsFrom}
 use Rattle.window.specs.Window.{placeOf, placesFrom, sizeAt, startOf, waitsAt, windowOf, zeros}
 use Rattle.window.specs.declared.missing.Gap.{Gap}
-use Rattle.window.proofs.Firsts.{Between, first-between}
+use Rattle.window.proofs.FirstNumber.{Between, first-between}
 use Rattle.book.specs.Tables.{noInside, noOrder, places}
 use Rattle.book.specs.declared.tables.Order.{Order}
 use Rattle.book_index.specs.Chains.{indexOf}

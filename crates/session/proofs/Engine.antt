@@ -22,7 +22,7 @@ use Rattle.book_room.specs.declared.adding.Put.the-variants as put
 use Rattle.book_room.specs.declared.changing.Act.{Act}
 use Rattle.book_room.specs.declared.changing.Act.the-variants as act
 use Rattle.book_room.specs.declared.changing.Name.{Name}
-use Rattle.session_message.specs.declared.Source.{Source}
+use Rattle.session_message.specs.declared.PacketRest.{PacketRest}
 use Rattle.window_taking.specs.declared.burst.Turn.{Turn}
 use Rattle.session.specs.Meaning.{Held, Ruled, endIn, nextIn}
 use Rattle.session.specs.Bursts.{Runs}
@@ -54,8 +54,8 @@ module _ {t : Task} {s : List ℕ} {single : Bool} {os : List Order} {room windo
   pub waits-orders : Waits t s single os room window answers text point → length os ≡ 256
   waits-orders w = w .many
 
-  -- of a point, next, turn and source are read
-  pub from-between : Going t s single os room window answers text point → Going t s single os room window answers text (betweenOf (point .next) (point .turn) (point .source))
+  -- of a point, next, turn and rest are read
+  pub from-between : Going t s single os room window answers text point → Going t s single os room window answers text (betweenOf (point .next) (point .turn) (point .rest))
   from-between g = record { now = g .now; wide = g .wide; long = g .long }
 
 -- ---- one message
@@ -73,10 +73,10 @@ module _ {room : List ℕ} {next end : ℕ} {b : Book} {number : ℕ} {s : List 
 
   pub touched-named : {n : Name} {at : ℕ} → names (typeIn s) ≡ true → Lies room next end b → n ≡ namedIn b s → at ≡ placeFound (n .order)
       → Touched room next end b number s (record { touches = true; place = at; name = n })
-  touched-named kind lies named spot =
+  touched-named kind lies named place-is =
       record {
         adds = λ some-order k. never (sym (subst (λ (j : ℕ). names j ≡ true) k kind));
-        names = λ some-order other. record { kind = kind; is = lies .is; name = named; spot = spot ∙ ap (λ (n : Name). placeFound (n .order)) named };
+        names = λ some-order other. record { kind = kind; is = lies .is; name = named; place-is = place-is ∙ ap (λ (n : Name). placeFound (n .order)) named };
         passes = λ no-order. never no-order;
       }
 
@@ -103,14 +103,14 @@ pub record Onward (s : List ℕ) (single : Bool) (room₀ window₀ answers₀ t
   pub few : stepsLeft to ≤ stepsLeft from
 
 module _ {t : Task} {s : List ℕ} {single : Bool} {os : List Order} {room window answers text : List ℕ} {before : Point} where
-  pub came-over : {r : Point} {next : ℕ} {turn : Turn} {source : Source} → r ≡ betweenOf next turn source
-      → Over t s single os room window answers (betweenOf next turn source) → length answers ≡ t .space → Came t s single os room window answers text before r
+  pub came-over : {r : Point} {next : ℕ} {turn : Turn} {rest : PacketRest} → r ≡ betweenOf next turn rest
+      → Over t s single os room window answers (betweenOf next turn rest) → length answers ≡ t .space → Came t s single os room window answers text before r
   came-over e over long =
       subst (Came t s single os room window answers text before) (sym e)
       (record { waits = λ h. never (sym h); place = λ h. never (sym h); fewer = λ h. never (sym h); over = λ _. over; long = long })
 
-  pub came-waits : {r : Point} (touched : Touch) {here : Source} {size next : ℕ} {turn : Turn} {source : Source} → r ≡ atHandOf touched here size next turn source
-      → Waits t s single os room window answers text (atHandOf touched here size next turn source) → turn .left * 257 + (turn .before + 256 - next) < stepsLeft before
+  pub came-waits : {r : Point} (touched : Touch) {here : PacketRest} {size next : ℕ} {turn : Turn} {rest : PacketRest} → r ≡ atHandOf touched here size next turn rest
+      → Waits t s single os room window answers text (atHandOf touched here size next turn rest) → turn .left * 257 + (turn .before + 256 - next) < stepsLeft before
       → length answers ≡ t .space → Came t s single os room window answers text before r
   came-waits touched e waits fewer long =
       subst (Came t s single os room window answers text before) (sym e)
@@ -149,7 +149,7 @@ module _ {t : Task} {s : List ℕ} {single : Bool} {os : List Order} {room windo
     pub asks : Known room (t .next) (t .end) (named .tables) (point .next - 1) bytes (point .name) (order .shares) (order .price)
     asks =
         let at : order ≡ getD (named .tables .orders) (placeFound (namedIn (named .tables) (bytesOf text s point) .order)) blank =
-        h .there ∙ ap₂ (λ (l : List Order) (k : ℕ). getD l k blank) (named .orders) (named .spot) in
+        h .there ∙ ap₂ (λ (l : List Order) (k : ℕ). getD l k blank) (named .orders) (named .place-is) in
         let known : Known room (t .next) (t .end) (named .tables) (named .number) (bytesOf text s point) (point .name) (order .shares) (order .price) =
         record { houses = named .houses; named = named .named; shares = ap (λ (o : Order). o .shares) at; price = ap (λ (o : Order). o .price) at } in
         subst (λ (k : ℕ). Known room (t .next) (t .end) (named .tables) k bytes (point .name) (order .shares) (order .price)) (sym counts)
@@ -170,7 +170,7 @@ module _ {t : Task} {s : List ℕ} {single : Bool} {os : List Order} {room windo
       pub settled-replace : {place shares price : ℕ} {r : Outcome} → a ≡ act.Replace place shares price
           → r ≡ record { removes = false; last = 0; order = repriced order shares price } → Settled t s single os room′ window answers text point r
       settled-replace {place} {shares} {price} e stored =
-          let at : point .place ≡ place = named .spot ∙ sym (changed .replaces place shares price e) in
+          let at : point .place ≡ place = named .place-is ∙ sym (changed .replaces place shares price e) in
           settled-with stored
           (goes e
           (ap (λ (o : Order). set os (point .place) (repriced o shares price)) (h .there)
@@ -180,7 +180,7 @@ module _ {t : Task} {s : List ℕ} {single : Bool} {os : List Order} {room windo
           → r ≡ record { removes = true; last = last; order = order } → Settled t s single os room′ window answers text point r
       settled-remove {place} {last} e stored =
           let out = changed .removes place last e in
-          let at : point .place ≡ place = named .spot ∙ sym (out .0) in
+          let at : point .place ≡ place = named .place-is ∙ sym (out .0) in
           subst (Settled t s single os room′ window answers text point) (sym stored)
           (record { last = λ _. out .1; going = goes e (ap (λ (k : ℕ). set (set os k (getD os last blank)) last noOrder) at) })
 

@@ -37,8 +37,8 @@ use Rattle.book_room.specs.Arms.{after, namedIn}
 use Rattle.book_room.specs.Room.{Houses, partsOf, roomOf}
 use Rattle.book.proofs.Keeping as keeping
 use Rattle.book.proofs.Steps.{found-within}
-use Rattle.session_message.specs.Source.{Begins, Goes, Lies as InBytes, messageAt, onwardOf, sizeIn, textAfter, windowAfter}
-use Rattle.session_message.specs.declared.Source.{Source}
+use Rattle.session_message.specs.AtNext.{Begins, Goes, Lies as InBytes, messageAt, onwardOf, sizeIn, textAfter, windowAfter}
+use Rattle.session_message.specs.declared.PacketRest.{PacketRest}
 use Rattle.session_message.proofs.Choices.{freed-packet, freed-window, message-packet, message-window, onward-packet, onward-window, size-packet, size-window, text-packet, text-window}
 use Rattle.window_taking.specs.Keeping.{Known, Neat, admittedOf, countOf, heldBy, keptBy, keptIf, startsAt, stateOf, straightIn, waitingOf, windowFor}
 use Rattle.window_taking.specs.Taking.{judge, takeTests}
@@ -245,9 +245,9 @@ none-ahead : (s : List ℕ) (left from next : ℕ) (w : List ℕ) (waiting : ℕ
 none-ahead s left from next w waiting e a = subst (λ (n : ℕ). Ahead s n from next w waiting) e a
 
 -- what the code knows of a message at next, once it is copied out
-pub record Here (s : List ℕ) (source : Source) (size : ℕ) (text : List ℕ) (next before : ℕ) : Type 0 where
-  pub whole : Whole (messageAt text s source size)
-  pub lies : InBytes s source size
+pub record Here (s : List ℕ) (rest : PacketRest) (size : ℕ) (text : List ℕ) (next before : ℕ) : Type 0 where
+  pub whole : Whole (messageAt text s rest size)
+  pub lies : InBytes s rest size
   pub cut : size ≤ length text
   pub long : size ≡ length (take size text)
   pub wide : length text ≡ 128
@@ -255,8 +255,8 @@ pub record Here (s : List ℕ) (source : Source) (size : ℕ) (text : List ℕ) 
   pub fewer : before + 256 - (next + 1) < before + 256 - next
 
 -- what waits at next, by the size where it lies
-module _ {task : Task} {s : List ℕ} {single : Bool} {answers : List ℕ} {os : List Order} {numbers w : List ℕ} {next : ℕ} {turn : Turn} {source : Source}
-    (o : Open task s single answers os numbers w next turn source) where
+module _ {task : Task} {s : List ℕ} {single : Bool} {answers : List ℕ} {os : List Order} {numbers w : List ℕ} {next : ℕ} {turn : Turn} {rest : PacketRest}
+    (o : Open task s single answers os numbers w next turn rest) where
   abbrev pub tabled : Book
   tabled = book.rep (o .state .tables)
 
@@ -266,33 +266,33 @@ module _ {task : Task} {s : List ℕ} {single : Bool} {answers : List ℕ} {os :
   pub closes : Closes turn next (length answers)
   closes = record { low = o .low; room = omega (arith, o .room) }
 
-  waits-in : source .left ≡ 0 → waitsAt w (next % 256) ≡ o .state .waiting (o .state .next)
+  waits-in : rest .left ≡ 0 → waitsAt w (next % 256) ≡ o .state .waiting (o .state .next)
   waits-in none-left =
-      let is : w ≡ windowFor (o .state .waiting) (o .state .next) = none-ahead s (source .left) (source .from) (o .state .next) w (o .state .waiting) none-left (o .ahead) in
+      let is : w ≡ windowFor (o .state .waiting) (o .state .next) = none-ahead s (rest .left) (rest .from) (o .state .next) w (o .state .waiting) none-left (o .ahead) in
       sym (waits-place w next next (omega arith) (omega arith))
       ∙ (λ i. (ap₂ waitingOf is (o .at) ∙ waiting-for (within (o .good))) i (o .at i))
 
-  module _ (some-left : source .left ≡ 0 → ⊥) where
-    led-by : Leads s (source .left) (source .from) (o .state .next) w (o .state .waiting)
-    led-by = leads s (source .left) (source .from) (o .state .next) w (o .state .waiting) some-left (o .ahead)
+  module _ (some-left : rest .left ≡ 0 → ⊥) where
+    led-by : Leads s (rest .left) (rest .from) (o .state .next) w (o .state .waiting)
+    led-by = leads s (rest .left) (rest .from) (o .state .next) w (o .state .waiting) some-left (o .ahead)
 
-    led-whole : Whole (part s (source .from) (lengthAt s (source .from)))
-    led-whole = o .good .whole (o .state .next) (part s (source .from) (lengthAt s (source .from))) (led-by .waits)
+    led-whole : Whole (part s (rest .from) (lengthAt s (rest .from)))
+    led-whole = o .good .whole (o .state .next) (part s (rest .from) (lengthAt s (rest .from))) (led-by .waits)
 
-    led-least : 3 ≤ lengthAt s (source .from)
-    led-least = omega (arith, led-whole .least, part-long s (source .from) (lengthAt s (source .from)))
+    led-least : 3 ≤ lengthAt s (rest .from)
+    led-least = omega (arith, led-whole .least, part-long s (rest .from) (lengthAt s (rest .from)))
 
-  pub begins : Begins s source
+  pub begins : Begins s rest
   begins = record { within = λ n. omega (arith, led-by n .within, led-least n) }
 
-  module _ {size : ℕ} (told : size ≡ sizeIn w s source (next % 256)) where
+  module _ {size : ℕ} (told : size ≡ sizeIn w s rest (next % 256)) where
     -- nothing waits: the packet at hand is done
     module _ (free : size ≡ 0) where
-      none-left : source .left ≡ 0
-      none-left = by-cases (ℕ-discrete (source .left) 0) (λ e. e) (λ n. absurd (omega (arith, free, told, size-packet source n w s (next % 256), led-least n)))
+      none-left : rest .left ≡ 0
+      none-left = by-cases (ℕ-discrete (rest .left) 0) (λ e. e) (λ n. absurd (omega (arith, free, told, size-packet rest n w s (next % 256), led-least n)))
 
       window : w ≡ windowFor (o .state .waiting) (o .state .next)
-      window = none-ahead s (source .left) (source .from) (o .state .next) w (o .state .waiting) none-left (o .ahead)
+      window = none-ahead s (rest .left) (rest .from) (o .state .next) w (o .state .waiting) none-left (o .ahead)
 
       pub holds : Neat w next
       holds = subst (Neat w) (sym (o .at)) (subst (λ (l : List ℕ). Neat l (o .state .next)) (sym window) (neat (o .good)))
@@ -301,7 +301,7 @@ module _ {task : Task} {s : List ℕ} {single : Bool} {answers : List ℕ} {os :
       known = state-known (o .state) (o .good) window (o .at) (o .end) []
 
       front : o .state .waiting (o .state .next) ≡ none
-      front = sym (waits-in none-left) ∙ place-free w (next % 256) (sym (size-window source none-left w s (next % 256)) ∙ sym told ∙ free)
+      front = sym (waits-in none-left) ∙ place-free w (next % 256) (sym (size-window rest none-left w s (next % 256)) ∙ sym told ∙ free)
 
       settled : finish (o .state) (turn .before) next ≡ o .state
       settled = stuck feed (turn .before + 256 - next) front
@@ -333,7 +333,7 @@ module _ {task : Task} {s : List ℕ} {single : Bool} {answers : List ℕ} {os :
           none-follows : Ended single s turn
           none-follows = ended single s turn last
 
-          pub ends : Over task s single os (set (set numbers 0 next) 1 (turn .end)) w answers′ (betweenOf next turn source)
+          pub ends : Over task s single os (set (set numbers 0 next) 1 (turn .end)) w answers′ (betweenOf next turn rest)
           unfolding takeAll rowsOf partsOf
           ends =
               let none-is : restOf single s turn ≡ [] = none-follows .packets in
@@ -371,15 +371,15 @@ module _ {task : Task} {s : List ℕ} {single : Bool} {answers : List ℕ} {os :
               after
 
     -- a message waits: it is applied
-    module _ (used : size ≡ 0 → ⊥) (text : List ℕ) {text′ : List ℕ} (wide : length text ≡ 128) (fetched : text′ ≡ textAfter w text source (next % 256)) where
+    module _ (used : size ≡ 0 → ⊥) (text : List ℕ) {text′ : List ℕ} (wide : length text ≡ 128) (fetched : text′ ≡ textAfter w text rest (next % 256)) where
       abbrev m : List ℕ
-      m = messageAt text′ s source size
+      m = messageAt text′ s rest size
 
       -- in the window
-      module _ (none-left : source .left ≡ 0) where
+      module _ (none-left : rest .left ≡ 0) where
         in-window : o .state .waiting (o .state .next) ≡ some (part w (startOf (next % 256)) size)
         in-window =
-            let is : size ≡ sizeAt w (next % 256) = told ∙ size-window source none-left w s (next % 256) in
+            let is : size ≡ sizeAt w (next % 256) = told ∙ size-window rest none-left w s (next % 256) in
             sym (waits-in none-left)
             ∙ place-used w (next % 256) (λ e. used (is ∙ e))
             ∙ ap (λ (n : ℕ). some (part w (startOf (next % 256)) n)) (sym is)
@@ -389,29 +389,29 @@ module _ {task : Task} {s : List ℕ} {single : Bool} {answers : List ℕ} {os :
 
         is-copied : m ≡ part w (startOf (next % 256)) size
         is-copied =
-            message-window source none-left text′ s size
-            ∙ ap (take size) (fetched ∙ text-window source none-left w text (next % 256))
+            message-window rest none-left text′ s size
+            ∙ ap (take size) (fetched ∙ text-window rest none-left w text (next % 256))
             ∙ part-front w (startOf (next % 256)) 128 size short
 
       -- in the packet
-      module _ (some-left : source .left ≡ 0 → ⊥) where
-        size-led : size ≡ lengthAt s (source .from)
-        size-led = told ∙ size-packet source some-left w s (next % 256)
+      module _ (some-left : rest .left ≡ 0 → ⊥) where
+        size-led : size ≡ lengthAt s (rest .from)
+        size-led = told ∙ size-packet rest some-left w s (next % 256)
 
-        is-led : m ≡ part s (source .from) (lengthAt s (source .from))
-        is-led = message-packet source some-left text′ s size ∙ ap (part s (source .from)) size-led
+        is-led : m ≡ part s (rest .from) (lengthAt s (rest .from))
+        is-led = message-packet rest some-left text′ s size ∙ ap (part s (rest .from)) size-led
 
       waits : o .state .waiting (o .state .next) ≡ some m
       waits =
-          by-cases (ℕ-discrete (source .left) 0)
+          by-cases (ℕ-discrete (rest .left) 0)
           (λ e. in-window e ∙ ap some (sym (is-copied e)))
           (λ n. led-by n .waits ∙ ap some (sym (is-led n)))
 
       sized : length m ≡ size
       sized =
-          by-cases (ℕ-discrete (source .left) 0)
+          by-cases (ℕ-discrete (rest .left) 0)
           (λ e. ap length (is-copied e) ∙ part-long w (startOf (next % 256)) size)
-          (λ n. ap length (is-led n) ∙ part-long s (source .from) (lengthAt s (source .from)) ∙ sym (size-led n))
+          (λ n. ap length (is-led n) ∙ part-long s (rest .from) (lengthAt s (rest .from)) ∙ sym (size-led n))
 
       whole : Whole m
       whole = o .good .whole (o .state .next) m waits
@@ -421,17 +421,17 @@ module _ {task : Task} {s : List ℕ} {single : Bool} {answers : List ℕ} {os :
 
       wider : length text′ ≡ 128
       wider =
-          by-cases (ℕ-discrete (source .left) 0)
-          (λ e. ap length (fetched ∙ text-window source e w text (next % 256)) ∙ part-long w (startOf (next % 256)) 128)
-          (λ n. ap length (fetched ∙ text-packet source n w text (next % 256)) ∙ wide)
+          by-cases (ℕ-discrete (rest .left) 0)
+          (λ e. ap length (fetched ∙ text-window rest e w text (next % 256)) ∙ part-long w (startOf (next % 256)) 128)
+          (λ n. ap length (fetched ∙ text-packet rest n w text (next % 256)) ∙ wide)
 
       cut : size ≤ length text′
       cut = omega (arith, fits, wider)
 
-      lies : InBytes s source size
+      lies : InBytes s rest size
       lies = record { within = λ n. omega (arith, led-by n .within, size-led n) }
 
-      pub goes : length s ≤ 18446744073709551615 → Goes source size
+      pub goes : length s ≤ 18446744073709551615 → Goes rest size
       goes most = record { within = λ n. omega (arith, lies .within n) }
 
       number-below : next < 4294967296
@@ -463,14 +463,14 @@ module _ {task : Task} {s : List ℕ} {single : Bool} {answers : List ℕ} {os :
           ∙ ap (λ (q : Option (List ℕ)). applyUpTo feed (turn .before + 256 - (next + 1)) (step feed (o .state) q)) waits
 
       -- the place in the window is free
-      freed-place : source .left ≡ 0 → splice w (startOf (next % 256)) (zeros 128) ≡ windowFor (moved .waiting) (moved .next)
+      freed-place : rest .left ≡ 0 → splice w (startOf (next % 256)) (zeros 128) ≡ windowFor (moved .waiting) (moved .next)
       unfolding windowFor step moved
       freed-place none-left =
           let x : Meaning = o .state in
           let place : ℕ → Option (List ℕ) = placed (within (o .good)) in
           let i : ℕ = x .next % 256 in
           let lt : i < 256 = mod-lt (x .next) {m = 256} (omega arith) in
-          let is : w ≡ windowFor (x .waiting) (x .next) = none-ahead s (source .left) (source .from) (x .next) w (x .waiting) none-left (o .ahead) in
+          let is : w ≡ windowFor (x .waiting) (x .next) = none-ahead s (rest .left) (rest .from) (x .next) w (x .waiting) none-left (o .ahead) in
           let after : InPlaces 256 (with place i none) (step feed x (some m)) =
           step-put (record { holds = in-places (within (o .good)) }) feed m (record { there = with-same place i none; others = λ j lo ne. with-other place i none j ne }) in
           ap₂ (λ (l : List ℕ) (n : ℕ). splice l (startOf (n % 256)) (zeros 128)) is (o .at)
@@ -478,29 +478,29 @@ module _ {task : Task} {s : List ℕ} {single : Bool} {answers : List ℕ} {os :
           ∙ same-window (with place i none) (λ j. step feed x (some m) .waiting (numberAt 256 (x .next + 1) j)) (λ j h. held-place after j h)
 
       Led′ : Type 0
-      Led′ = Ahead s (onwardOf source size .left) (onwardOf source size .from) (moved .next) (windowAfter w source (next % 256)) (moved .waiting) × (length (windowAfter w source (next % 256)) ≡ 32768)
+      Led′ = Ahead s (onwardOf rest size .left) (onwardOf rest size .from) (moved .next) (windowAfter w rest (next % 256)) (moved .waiting) × (length (windowAfter w rest (next % 256)) ≡ 32768)
 
       led-on : Led′
       unfolding Led′ step freedAt moved
       led-on =
-          by-cases (ℕ-discrete (source .left) 0)
+          by-cases (ℕ-discrete (rest .left) 0)
           (λ e.
-          let is : windowAfter w source (next % 256) ≡ windowFor (moved .waiting) (moved .next) = freed-window source e w (next % 256) ∙ freed-place e in
-          let nought : 0 ≡ onwardOf source size .left = sym (ap (λ (z : Source). z .left) (onward-window source e size) ∙ e) in
-          (subst (λ (n : ℕ). Ahead s n (onwardOf source size .from) (moved .next) (windowAfter w source (next % 256)) (moved .waiting)) nought is, ap length is ∙ window-size (within (good-step (o .good) waits))))
+          let is : windowAfter w rest (next % 256) ≡ windowFor (moved .waiting) (moved .next) = freed-window rest e w (next % 256) ∙ freed-place e in
+          let nought : 0 ≡ onwardOf rest size .left = sym (ap (λ (z : PacketRest). z .left) (onward-window rest e size) ∙ e) in
+          (subst (λ (n : ℕ). Ahead s n (onwardOf rest size .from) (moved .next) (windowAfter w rest (next % 256)) (moved .waiting)) nought is, ap length is ∙ window-size (within (good-step (o .good) waits))))
           (λ n.
-          let on : onwardOf source size ≡ record { left = source .left - 1; from = source .from + size } = onward-packet source n size in
-          let to : source .from + lengthAt s (source .from) ≡ source .from + size = ap (λ (k : ℕ). source .from + k) (sym (size-led n)) in (
-            subst (λ (z : Source). Ahead s (z .left) (z .from) (moved .next) (windowAfter w source (next % 256)) (moved .waiting)) (sym on)
-                (subst (λ (l : List ℕ). Ahead s (source .left - 1) (source .from + size) (moved .next) l (moved .waiting)) (sym (freed-packet source n w (next % 256)))
-                (subst (λ (k : ℕ). Ahead s (source .left - 1) k (moved .next) w (moved .waiting)) to (led-by n .rest))),
-            ap length (freed-packet source n w (next % 256)) ∙ o .long,
+          let on : onwardOf rest size ≡ record { left = rest .left - 1; from = rest .from + size } = onward-packet rest n size in
+          let to : rest .from + lengthAt s (rest .from) ≡ rest .from + size = ap (λ (k : ℕ). rest .from + k) (sym (size-led n)) in (
+            subst (λ (z : PacketRest). Ahead s (z .left) (z .from) (moved .next) (windowAfter w rest (next % 256)) (moved .waiting)) (sym on)
+                (subst (λ (l : List ℕ). Ahead s (rest .left - 1) (rest .from + size) (moved .next) l (moved .waiting)) (sym (freed-packet rest n w (next % 256)))
+                (subst (λ (k : ℕ). Ahead s (rest .left - 1) k (moved .next) w (moved .waiting)) to (led-by n .rest))),
+            ap length (freed-packet rest n w (next % 256)) ∙ o .long,
           ))
 
-      pub applied : {os′ : List Order} {numbers′ w′ : List ℕ} {source′ : Source} → os′ ≡ after tabled next m .orders → numbers′ ≡ roomOf (task .next) (task .end) (after tabled next m)
-          → w′ ≡ windowAfter w source (next % 256) → source′ ≡ onwardOf source size → Open task s single answers os′ numbers′ w′ (next + 1) turn source′
+      pub applied : {os′ : List Order} {numbers′ w′ : List ℕ} {rest′ : PacketRest} → os′ ≡ after tabled next m .orders → numbers′ ≡ roomOf (task .next) (task .end) (after tabled next m)
+          → w′ ≡ windowAfter w rest (next % 256) → rest′ ≡ onwardOf rest size → Open task s single answers os′ numbers′ w′ (next + 1) turn rest′
       unfolding step moved Led′
-      applied {os′} {numbers′} {w′} {source′} orders housed is on =
+      applied {os′} {numbers′} {w′} {rest′} orders housed is on =
           let behind : after tabled next m ≡ book.rep (applyOf (o .state .tables) (o .state .next) m) = ap₂ (λ (t : Tables) (n : ℕ). book.rep (applyOf t n m)) (keeping.view-rep (o .state .tables)) (o .at) in
           record {
             state = step feed (o .state) (some m);
@@ -508,8 +508,8 @@ module _ {task : Task} {s : List ℕ} {single : Bool} {answers : List ℕ} {os :
             orders = orders ∙ ap (λ (b : Book). b .orders) behind;
             housed = housed ∙ ap (roomOf (task .next) (task .end)) behind;
             ahead =
-                subst (λ (z : Source). Ahead s (z .left) (z .from) (o .state .next + 1) w′ (freedAt (o .state))) (sym on)
-                (subst (λ (l : List ℕ). Ahead s (onwardOf source size .left) (onwardOf source size .from) (o .state .next + 1) l (freedAt (o .state))) (sym is) (led-on .0));
+                subst (λ (z : PacketRest). Ahead s (z .left) (z .from) (o .state .next + 1) w′ (freedAt (o .state))) (sym on)
+                (subst (λ (l : List ℕ). Ahead s (onwardOf rest size .left) (onwardOf rest size .from) (o .state .next + 1) l (freedAt (o .state))) (sym is) (led-on .0));
             long = ap length is ∙ led-on .1;
             at = ap (λ (n : ℕ). n + 1) (o .at);
             end = o .end;
@@ -525,7 +525,7 @@ module _ {task : Task} {s : List ℕ} {single : Bool} {answers : List ℕ} {os :
             big = o .big;
           }
 
-      pub here : Here s source size text′ next (turn .before)
+      pub here : Here s rest size text′ next (turn .before)
       here =
           record {
             whole = whole;
@@ -538,13 +538,13 @@ module _ {task : Task} {s : List ℕ} {single : Bool} {answers : List ℕ} {os :
           }
 
       -- it is done but for what it leaves to do in the order table
-      module _ {numbers′ w′ : List ℕ} {source′ : Source} {r : Touch} {bytes : List ℕ} (is : bytes ≡ m) (done : Touched numbers′ (task .next) (task .end) tabled next bytes r)
-          (clear : w′ ≡ windowAfter w source (next % 256)) (on : source′ ≡ onwardOf source size) (space : length answers ≡ task .space) where
+      module _ {numbers′ w′ : List ℕ} {rest′ : PacketRest} {r : Touch} {bytes : List ℕ} (is : bytes ≡ m) (done : Touched numbers′ (task .next) (task .end) tabled next bytes r)
+          (clear : w′ ≡ windowAfter w rest (next % 256)) (on : rest′ ≡ onwardOf rest size) (space : length answers ≡ task .space) where
         touched : Touched numbers′ (task .next) (task .end) tabled next m r
         touched = subst (λ (l : List ℕ). Touched numbers′ (task .next) (task .end) tabled next l r) is done
 
         abbrev at-hand : Point
-        at-hand = atHandOf r source size (next + 1) turn source′
+        at-hand = atHandOf r rest size (next + 1) turn rest′
 
         goes-on : {os′ : List Order} {rooms : List ℕ} → os′ ≡ after tabled next m .orders → rooms ≡ roomOf (task .next) (task .end) (after tabled next m)
             → Going task s single os′ rooms w′ answers text′ at-hand
@@ -554,9 +554,9 @@ module _ {task : Task} {s : List ℕ} {single : Bool} {answers : List ℕ} {os :
         place-within some-order =
             by-cases (ℕ-discrete (typeIn m) 21)
             (λ e. touched .adds some-order e .within)
-            (λ n. found-within (tabled .keys) (tabled .live) (namedIn tabled m .key) (kept (o .good) .live) refl (touched .names some-order n .spot))
+            (λ n. found-within (tabled .keys) (tabled .live) (namedIn tabled m .key) (kept (o .good) .live) refl (touched .names some-order n .place-is))
 
-        pub waits-so : r .touches ≡ true → Waits task s single os numbers′ w′ answers text′ (atHandOf r source size (next + 1) turn source′)
+        pub waits-so : r .touches ≡ true → Waits task s single os numbers′ w′ answers text′ (atHandOf r rest size (next + 1) turn rest′)
         waits-so some-order =
             record {
               whole = whole;
@@ -580,12 +580,12 @@ module _ {task : Task} {s : List ℕ} {single : Bool} {answers : List ℕ} {os :
                     houses = record { ready = houses .ready; is = a .is };
                     orders = o .orders;
                     named = a .name;
-                    spot = a .spot;
+                    place-is = a .place-is;
                     going = goes-on;
                   };
             }
 
-        pub passes-so : r .touches ≡ false → Going task s single os numbers′ w′ answers text′ (betweenOf (next + 1) turn source′)
+        pub passes-so : r .touches ≡ false → Going task s single os numbers′ w′ answers text′ (betweenOf (next + 1) turn rest′)
         passes-so none-touched =
             record { now = applied (o .orders ∙ sym (touched .passes none-touched .orders)) (touched .passes none-touched .is) clear on; wide = wider; long = space }
 

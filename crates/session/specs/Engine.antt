@@ -21,8 +21,8 @@ use Rattle.book.specs.declared.lookup.Found.the-variants as found
 use Rattle.book.specs.declared.tables.Order.{Order}
 use Rattle.book_room.specs.Arms.{Told, after, namedIn}
 use Rattle.book_room.specs.Room.{Houses, roomOf}
-use Rattle.session_message.specs.Source.{Lies, messageAt}
-use Rattle.session_message.specs.declared.Source.{Source}
+use Rattle.session_message.specs.AtNext.{Lies, messageAt}
+use Rattle.session_message.specs.declared.PacketRest.{PacketRest}
 use Rattle.window_taking.specs.Ahead.{Ahead}
 use Rattle.window_taking.specs.Turns.{answerIf, atStart, endFrom, packetsFrom, placeAfter}
 use Rattle.window_taking.specs.declared.burst.Turn.{Turn}
@@ -66,8 +66,8 @@ taskOf h s single count answers =
     }
 
 -- a point at which no message is at hand, the first of them, and one at which a message touches an order
-abbrev pub betweenOf : ℕ → Turn → Source → Point
-betweenOf next turn source =
+abbrev pub betweenOf : ℕ → Turn → PacketRest → Point
+betweenOf next turn rest =
     record {
       touches = false;
       place = 0;
@@ -76,14 +76,14 @@ betweenOf next turn source =
       size = 0;
       next = next;
       turn = turn;
-      source = source;
+      rest = rest;
     }
 
 abbrev pub beginOf : ℕ → ℕ → ℕ → Point
 beginOf next end count = betweenOf next (atStart next end count) (record { left = 0; from = 0 })
 
-abbrev pub atHandOf : Touch → Source → ℕ → ℕ → Turn → Source → Point
-atHandOf touched here size next turn source =
+abbrev pub atHandOf : Touch → PacketRest → ℕ → ℕ → Turn → PacketRest → Point
+atHandOf touched here size next turn rest =
     record {
       touches = true;
       place = touched .place;
@@ -92,7 +92,7 @@ atHandOf touched here size next turn source =
       size = size;
       next = next;
       turn = turn;
-      source = source;
+      rest = rest;
     }
 
 -- all is applied that can be of the packet at hand
@@ -108,12 +108,12 @@ abbrev pub rowsFrom : Turn → Meaning → List (List ℕ) → List ℕ
 rowsFrom turn z rest = answerIf (turn .begun) (rowWith (turn .before) (turn .refusal) z) ++ rowsOf z rest
 
 -- what is held now holds a meaning, and what is left to do from there gives what the run is to give
-pub record Open (task : Task) (s : List ℕ) (single : Bool) (answers : List ℕ) (os : List Order) (numbers w : List ℕ) (next : ℕ) (turn : Turn) (source : Source) : Type 0 where
+pub record Open (task : Task) (s : List ℕ) (single : Bool) (answers : List ℕ) (os : List Order) (numbers w : List ℕ) (next : ℕ) (turn : Turn) (rest : PacketRest) : Type 0 where
   pub state : Meaning
   pub good : Good state
   pub orders : os ≡ book.rep (state .tables) .orders
   pub housed : numbers ≡ roomOf (task .next) (task .end) (book.rep (state .tables))
-  pub ahead : Ahead s (source .left) (source .from) (state .next) w (state .waiting)
+  pub ahead : Ahead s (rest .left) (rest .from) (state .next) w (state .waiting)
   pub long : length w ≡ 32768
   pub at : next ≡ state .next
   pub end : turn .end ≡ state .end
@@ -128,9 +128,9 @@ pub record Open (task : Task) (s : List ℕ) (single : Bool) (answers : List ℕ
   pub room : placeAfter turn + 4 * turn .left ≤ length answers
   pub big : length answers ≤ 18446744073709551615
 
--- a run is at a point: of the point it reads next, turn and source
+-- a run is at a point: of the point it reads next, turn and rest
 pub record Going (task : Task) (s : List ℕ) (single : Bool) (os : List Order) (room window answers text : List ℕ) (point : Point) : Type 0 where
-  pub now : Open task s single answers os room window (point .next) (point .turn) (point .source)
+  pub now : Open task s single answers os room window (point .next) (point .turn) (point .rest)
   pub wide : length text ≡ 128
   pub long : length answers ≡ task .space
 
@@ -157,7 +157,7 @@ pub record Names (task : Task) (s : List ℕ) (single : Bool) (os : List Order) 
   pub houses : Houses room (task .next) (task .end) tables number (bytesOf text s point)
   pub orders : os ≡ tables .orders
   pub named : point .name ≡ namedIn tables (bytesOf text s point)
-  pub spot : point .place ≡ placeFound (namedIn tables (bytesOf text s point) .order)
+  pub place-is : point .place ≡ placeFound (namedIn tables (bytesOf text s point) .order)
   pub going : {os′ : List Order} {room′ : List ℕ} → os′ ≡ after tables number (bytesOf text s point) .orders
       → room′ ≡ roomOf (task .next) (task .end) (after tables number (bytesOf text s point))
       → Going task s single os′ room′ window answers text point
@@ -218,7 +218,7 @@ pub record NamedAt (room : List ℕ) (next end : ℕ) (b : Book) (s : List ℕ) 
   pub kind : names (typeIn s) ≡ true
   pub is : room ≡ roomOf next end b
   pub name : r .name ≡ namedIn b s
-  pub spot : r .place ≡ placeFound (namedIn b s .order)
+  pub place-is : r .place ≡ placeFound (namedIn b s .order)
 
 pub record Touched (room : List ℕ) (next end : ℕ) (b : Book) (number : ℕ) (s : List ℕ) (r : Touch) : Type 0 where
   pub adds : r .touches ≡ true → typeIn s ≡ 21 → PutAt room next end b number s r

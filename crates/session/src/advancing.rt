@@ -6,7 +6,7 @@ use book_room::changing::Name;
 use book_room::room::END;
 use book_room::room::NEXT;
 use book_room::room::Room;
-use session_message::Source;
+use session_message::PacketRest;
 use window::places::NUMBERS;
 use window::places::Window;
 use window_burst::close;
@@ -27,11 +27,11 @@ pub struct Point {
     pub touches: bool,
     pub place: usize,
     pub name: Name,
-    pub here: Source,
+    pub here: PacketRest,
     pub size: usize,
     pub next: u64,
     pub turn: Turn,
-    pub source: Source,
+    pub rest: PacketRest,
 }
 
 // How many packets a run took, and where the bytes behind them begin.
@@ -41,8 +41,8 @@ pub struct Ended {
 }
 
 // A point at which no message is at hand.
-fn between(next: u64, turn: Turn, source: Source) -> Point
-    ensures { λ r. ⌜ r ≡ betweenOf next turn source ⌝ }
+fn between(next: u64, turn: Turn, rest: PacketRest) -> Point
+    ensures { λ r. ⌜ r ≡ betweenOf next turn rest ⌝ }
 {
     Point {
         touches: false,
@@ -51,23 +51,23 @@ fn between(next: u64, turn: Turn, source: Source) -> Point
             key: 0,
             order: Found::Nothing,
         },
-        here: Source { left: 0, from: 0 },
+        here: PacketRest { left: 0, from: 0 },
         size: 0,
         next,
         turn,
-        source,
+        rest,
     }
 }
 
 fn at_hand(
     touched: Touch,
-    here: Source,
+    here: PacketRest,
     size: usize,
     next: u64,
     turn: Turn,
-    source: Source,
+    rest: PacketRest,
 ) -> Point
-    ensures { λ r. ⌜ r ≡ atHandOf touched here size next turn source ⌝ }
+    ensures { λ r. ⌜ r ≡ atHandOf touched here size next turn rest ⌝ }
 {
     let name = touched.name;
     Point {
@@ -78,7 +78,7 @@ fn at_hand(
         size,
         next,
         turn,
-        source,
+        rest,
     }
 }
 
@@ -87,7 +87,7 @@ pub fn begin(room: &Room, count: usize) -> Point
 {
     let next = room[NEXT];
     let turn = start(next, room[END], count);
-    between(next, turn, Source { left: 0, from: 0 })
+    between(next, turn, PacketRest { left: 0, from: 0 })
 }
 
 // Each packet is kept, then all is applied that can be. Where nothing waits, a packet's messages are
@@ -108,32 +108,32 @@ pub fn advance(
 {
     let mut next = point.next;
     let mut turn = point.turn;
-    let mut source = point.source;
+    let mut rest = point.rest;
     loop {
-        let spot = (next % NUMBERS) as usize;
-        let here = source;
-        let size = session_message::size(window, packets, here, spot);
+        let place = (next % NUMBERS) as usize;
+        let here = rest;
+        let size = session_message::size(window, packets, here, place);
         if size == 0 {
             close(answers, turn, next);
             if done(packets, single, turn) {
                 room[NEXT] = next;
                 room[END] = turn.end;
-                return between(next, turn, source);
+                return between(next, turn, rest);
             }
             turn = follow(window, packets, single, turn, next);
-            source = Source {
+            rest = PacketRest {
                 left: turn.direct,
                 from: turn.from,
             };
         } else {
-            session_message::fetch(text, window, here, spot);
-            session_message::free(window, here, spot);
-            source = session_message::onward(here, size);
+            session_message::fetch(text, window, here, place);
+            session_message::free(window, here, place);
+            rest = session_message::onward(here, size);
             let bytes = session_message::message(text, packets, here, size);
             let touched = apply(room, digits, bytes, next);
             next += 1;
             if touched.touches {
-                return at_hand(touched, here, size, next, turn, source);
+                return at_hand(touched, here, size, next, turn, rest);
             }
         }
     }

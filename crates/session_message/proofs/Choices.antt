@@ -9,10 +9,10 @@ use lib.ListN.{length, take, drop}
 use Rattle.wire.specs.Number.{num, part, splice}
 use Rattle.window.specs.Window.{sizeAt, startOf, zeros}
 use Rattle.window.proofs.Agreeing.{lent}
-use Rattle.session_message.specs.Source.{Lies, inWindow, messageAt, onwardOf, sizeIn, textAfter, windowAfter}
-use Rattle.session_message.specs.declared.Source.{Source}
+use Rattle.session_message.specs.AtNext.{Lies, inWindow, messageAt, onwardOf, sizeIn, textAfter, windowAfter}
+use Rattle.session_message.specs.declared.PacketRest.{PacketRest}
 
-module _ (x : Source) (none : x .left ≡ 0) where
+module _ (x : PacketRest) (none : x .left ≡ 0) where
   yes : inWindow x ≡ true
   yes = eq-eqb (x .left) 0 none
 
@@ -36,7 +36,7 @@ module _ (x : Source) (none : x .left ≡ 0) where
   unfolding onwardOf
   onward-window size = ap (λ b. cond b x (record { left = x .left - 1; from = x .from + size })) yes
 
-module _ (x : Source) (some : x .left ≡ 0 → ⊥) where
+module _ (x : PacketRest) (some : x .left ≡ 0 → ⊥) where
   no : inWindow x ≡ false
   no = ne-eqb (x .left) 0 some
 

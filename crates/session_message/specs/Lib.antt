@@ -1,2 +1,2 @@
 -- What `session_message` promises: the message at next, from the packet or from the window.
-pub mod Source
+pub mod AtNext

@@ -6,34 +6,34 @@ use window::places::Window;
 ghost use mathlib.Core.Path.{_≡_};
 ghost use Prim.Native.Nat.{_<_, _≤_};
 ghost use lib.ListN.{length};
-ghost use Rattle.session_message.specs.Source.{sizeIn, textAfter, windowAfter, onwardOf, messageAt, Begins, Goes, Lies};
+ghost use Rattle.session_message.specs.AtNext.{sizeIn, textAfter, windowAfter, onwardOf, messageAt, Begins, Goes, Lies};
 
-// How many messages of the packet at hand are applied straight from it, and where the first of them
-// begins in the lent bytes.
-pub struct Source {
+// What is left of the packet at hand: how many messages of it are applied straight from it, and where the
+// first of them begins in the lent bytes.
+pub struct PacketRest {
     pub left: usize,
     pub from: usize,
 }
 
 // The size of the message at next, 0 where there is none.
-pub fn size(window: &Window, s: &[u8], source: Source, place: usize) -> usize
+pub fn size(window: &Window, s: &[u8], rest: PacketRest, place: usize) -> usize
     requires { ⌜ place < 256 ⌝ }
-    requires { ⌜ Begins (now s) source ⌝ }
-    ensures { λ r. ⌜ r ≡ sizeIn (now (window .entry)) (now (s .entry)) source place ⌝ }
+    requires { ⌜ Begins (now s) rest ⌝ }
+    ensures { λ r. ⌜ r ≡ sizeIn (now (window .entry)) (now (s .entry)) rest place ⌝ }
 {
-    if source.left == 0 {
+    if rest.left == 0 {
         return places::size_at(window, place);
     }
-    let from = source.from;
+    let from = rest.from;
     wire::u16_at(s, from) as usize
 }
 
 // What stands at a place of the window copied into `text`, before the place is made free.
-pub fn fetch(text: &mut [u8; PLACE], window: &Window, source: Source, place: usize)
+pub fn fetch(text: &mut [u8; PLACE], window: &Window, rest: PacketRest, place: usize)
     requires { ⌜ (place < 256) × (length (now text) ≡ 128) ⌝ }
-    ensures { λ _. ⌜ now (text .exit) ≡ textAfter (now (window .entry)) (now (text .entry)) source place ⌝ }
+    ensures { λ _. ⌜ now (text .exit) ≡ textAfter (now (window .entry)) (now (text .entry)) rest place ⌝ }
 {
-    if source.left != 0 {
+    if rest.left != 0 {
         return;
     }
     let start = place * PLACE;
@@ -44,38 +44,38 @@ pub fn fetch(text: &mut [u8; PLACE], window: &Window, source: Source, place: usi
     }
 }
 
-pub fn free(window: &mut Window, source: Source, place: usize)
+pub fn free(window: &mut Window, rest: PacketRest, place: usize)
     requires { ⌜ (place < 256) × (length (now window) ≡ 32768) ⌝ }
-    ensures { λ _. ⌜ now (window .exit) ≡ windowAfter (now (window .entry)) source place ⌝ }
+    ensures { λ _. ⌜ now (window .exit) ≡ windowAfter (now (window .entry)) rest place ⌝ }
 {
-    if source.left == 0 {
+    if rest.left == 0 {
         places::clear(window, place);
     }
 }
 
 // Past a message of this size.
-pub fn onward(source: Source, size: usize) -> Source
-    requires { ⌜ Goes source size ⌝ }
-    ensures { λ r. ⌜ r ≡ onwardOf source size ⌝ }
+pub fn onward(rest: PacketRest, size: usize) -> PacketRest
+    requires { ⌜ Goes rest size ⌝ }
+    ensures { λ r. ⌜ r ≡ onwardOf rest size ⌝ }
 {
-    if source.left == 0 {
-        return source;
+    if rest.left == 0 {
+        return rest;
     }
-    let left = source.left - 1;
-    let from = source.from + size;
-    Source { left, from }
+    let left = rest.left - 1;
+    let from = rest.from + size;
+    PacketRest { left, from }
 }
 
 // The message: what was copied out, or a part of the packet.
-pub fn message<'a>(text: &'a [u8], s: &'a [u8], source: Source, size: usize) -> &'a [u8]
+pub fn message<'a>(text: &'a [u8], s: &'a [u8], rest: PacketRest, size: usize) -> &'a [u8]
     requires { ⌜ size ≤ length (now text) ⌝ }
-    requires { ⌜ Lies (now s) source size ⌝ }
-    ensures { λ r. ⌜ now r ≡ messageAt (now (text .entry)) (now (s .entry)) source size ⌝ }
+    requires { ⌜ Lies (now s) rest size ⌝ }
+    ensures { λ r. ⌜ now r ≡ messageAt (now (text .entry)) (now (s .entry)) rest size ⌝ }
 {
-    if source.left == 0 {
+    if rest.left == 0 {
         return &text[..size];
     }
-    let from = source.from;
+    let from = rest.from;
     let stop = from + size;
     &s[from..stop]
 }

@@ -1,6 +1,6 @@
 -- Laws of `window`'s definitions, which the proofs of this crate and of those above cite.
 pub mod Agreeing
-pub mod Firsts
+pub mod FirstNumber
 pub mod Held
 pub mod Requests
 pub mod Splits

@@ -10,7 +10,7 @@ use borrow.Author.Tests.{ltb-true, ltb-false}
 use lib.Dec.{ltb}
 use Rattle.window.specs.Runs.{closed, firstFrom, runFrom, runsFrom, IsRun}
 use Rattle.window.specs.declared.missing.Gap.{Gap}
-use Rattle.window.proofs.Firsts.{Between, first-between}
+use Rattle.window.proofs.FirstNumber.{Between, first-between}
 
 first-hit : (test : ℕ → Bool) (k n : ℕ) → test k ≡ true → firstFrom test k (suc n) ≡ k
 unfolding firstFrom

@@ -54,22 +54,22 @@ stepped buf at text from none sixteen inside e f =
     f ∙ ap (splice buf at) (e ∙ ap (splice none 0) bytes ∙ all)
 
 -- the first k bytes of the text are put
-pub record Putting (b : List ℕ) (at : ℕ) (t buf : List ℕ) (k : ℕ) : Type 0 where
+pub record Copied (b : List ℕ) (at : ℕ) (t buf : List ℕ) (k : ℕ) : Type 0 where
   pub same : buf ≡ splice b at (take k t)
   pub within : k ≤ length t
 
 module _ (b : List ℕ) (at : ℕ) (t : List ℕ) (room : at + length t ≤ length b) where
-  pub putting-start : Putting b at t b 0
-  putting-start = record { same = sym (splice-none b at); within = omega arith }
+  pub copied-start : Copied b at t b 0
+  copied-start = record { same = sym (splice-none b at); within = omega arith }
 
-  module _ {buf : List ℕ} {k : ℕ} (p : Putting b at t buf k) where
-    pub putting-long : length buf ≡ length b
-    putting-long =
+  module _ {buf : List ℕ} {k : ℕ} (p : Copied b at t buf k) where
+    pub copied-long : length buf ≡ length b
+    copied-long =
         let long = length-take-le k t (p .within) in
         ap length (p .same) ∙ length-splice b at (take k t) (omega (arith, p .within, long))
 
-    pub putting-step : {after : List ℕ} → k + 16 ≤ length t → after ≡ splice buf (at + k) (part t k 16) → Putting b at t after (k + 16)
-    putting-step {after} left e =
+    pub copied-step : {after : List ℕ} → k + 16 ≤ length t → after ≡ splice buf (at + k) (part t k 16) → Copied b at t after (k + 16)
+    copied-step {after} left e =
         let long : length (take k t) ≡ k = length-take-le k t (p .within) in
         record {
           same =
@@ -82,8 +82,8 @@ module _ (b : List ℕ) (at : ℕ) (t : List ℕ) (room : at + length t ≤ leng
           within = left;
         }
 
-    pub putting-end : {after : List ℕ} (last : ℕ) → last + 16 ≡ length t → last ≤ k → after ≡ splice buf (at + last) (part t last 16) → after ≡ splice b at t
-    putting-end {after} last whole inside e =
+    pub copied-end : {after : List ℕ} (last : ℕ) → last + 16 ≡ length t → last ≤ k → after ≡ splice buf (at + last) (part t last 16) → after ≡ splice b at t
+    copied-end {after} last whole inside e =
         let long : length (take k t) ≡ k = length-take-le k t (p .within) in
         let rest : part t last 16 ≡ drop last t = part-is t last 16 (omega arith) ∙ take-all 16 (drop last t) (omega (arith, length-drop last t)) in
         let size : length (drop last t) ≡ 16 = omega (arith, length-drop last t) in

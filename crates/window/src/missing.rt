@@ -15,7 +15,7 @@ fn missing_is(window: &Window, wanted: bool, k: u64) -> bool
 }
 
 // The first number from a place on, below the limit, that is missing or is not, as wanted; else the limit.
-pub fn first(window: &Window, wanted: bool, from: u64, limit: u64) -> u64
+pub fn first_number(window: &Window, wanted: bool, from: u64, limit: u64) -> u64
     requires { ⌜ from ≤ limit ⌝ }
     ensures { λ r. ⌜ IsFirst (missingIs (now (window .entry)) wanted) from limit r ⌝ }
 {
@@ -40,8 +40,8 @@ pub fn run(window: &Window, from: u64, limit: u64) -> Gap
     requires { ⌜ from ≤ limit ⌝ }
     ensures { λ r. ⌜ IsRun (missingIn (now (window .entry))) from limit r ⌝ }
 {
-    let start = first(window, true, from, limit);
-    let stop = first(window, false, start, limit);
+    let start = first_number(window, true, from, limit);
+    let stop = first_number(window, false, start, limit);
     Gap {
         start,
         count: stop - start,

@@ -228,7 +228,10 @@ fn library_bursts(
         };
         times.push(piece, timed(bursts));
     }
-    assert!(answers.iter().map(Row::of).eq(expected.iter().copied()));
+    assert!(answers
+        .iter()
+        .map(Row::from_answer)
+        .eq(expected.iter().copied()));
 }
 
 /// The same answers from the twin, packet by packet over the same bytes.

@@ -228,7 +228,7 @@ impl Feed {
     /// Takes over what an altered packet carried: it is what waits now under these numbers.
     fn learn(&mut self, packet: &[u8], before: u64) {
         let first = u32::from_be_bytes([packet[2], packet[3], packet[4], packet[5]]) as u64;
-        for (number, message) in (first..).zip(Messages::of(packet)) {
+        for (number, message) in (first..).zip(Messages::in_packet(packet)) {
             if number >= before {
                 self.place(number);
                 let index = (number - self.opening) as usize;
@@ -431,7 +431,7 @@ fn fix_size(out: &mut [u8]) {
 /// Where a message of a good packet begins.
 fn message_at(packet: &[u8], index: usize) -> usize {
     HEADER
-        + Messages::of(packet)
+        + Messages::in_packet(packet)
             .take(index)
             .map(<[u8]>::len)
             .sum::<usize>()

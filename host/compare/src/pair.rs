@@ -12,7 +12,7 @@ pub struct Row {
 }
 
 impl Row {
-    pub fn of(answer: &Answer) -> Row {
+    pub fn from_answer(answer: &Answer) -> Row {
         Row {
             answer: applied(answer.result()),
             next: answer.next(),
@@ -169,7 +169,7 @@ impl Pair {
         for (packet, answer) in packets.zip(&answers) {
             let expected = self.twin_row(packet);
             taken += 2 + packet.len();
-            equal(packet, Row::of(answer), expected)?;
+            equal(packet, Row::from_answer(answer), expected)?;
         }
         let expected = Burst {
             packets: count,
@@ -206,7 +206,7 @@ impl Pair {
         equal("end", numbers.end, self.twin.end())?;
         equal("live", numbers.live, self.twin.book().live())?;
         equal("held", numbers.held, self.twin.book().held_insides().len())?;
-        equal("code", numbers.code, self.twin.code())?;
+        equal("code", numbers.code, self.twin.code().into())?;
         equal("faults", numbers.faults.count, faults.count)?;
         equal("first fault", first, expected)
     }

@@ -153,19 +153,7 @@ impl Session {
     /// next, end, the counts of the tables, the session code and the record of faults.
     #[inline]
     pub fn numbers(&self) -> Numbers {
-        let [next, end, live, held, code, number, count, reason] = self.memory.numbers();
-        Numbers {
-            next,
-            end,
-            live: live as usize,
-            held: held as usize,
-            code: code as u8,
-            faults: Faults {
-                count,
-                number,
-                reason: reason as u8,
-            },
-        }
+        self.memory.numbers()
     }
 
     /// The best price of a symbol on a side, a [`Side`](crate::Side) or its byte.
@@ -237,7 +225,7 @@ impl Session {
     pub fn order(&self, id: &[u8; 14]) -> Result<Order, Refusal> {
         let (refusal, told) = self.memory.order(id);
         refused(refusal)?;
-        Ok(Order::by(told))
+        Ok(Order::from_told(told))
     }
 
     /// All live orders, where they lie; any packet may change their places.
@@ -254,7 +242,7 @@ impl Session {
     pub fn inside(&self, symbol: &[u8; 14]) -> Result<Inside, Refusal> {
         let (refusal, told) = self.memory.inside(symbol);
         refused(refusal)?;
-        Ok(Inside::by(*symbol, told))
+        Ok(Inside::from_told(*symbol, told))
     }
 
     /// Writes a request of [`REQUEST`](Session::REQUEST) bytes for each run of missing numbers, one behind the other, and
@@ -296,7 +284,8 @@ impl fmt::Debug for Session {
     }
 }
 
-/// The numbers of a session.
+/// The numbers of a session, as the library writes them: none is moved on its way.
+#[repr(C)]
 #[derive(Clone, Copy, Debug, PartialEq, Eq)]
 pub struct Numbers {
     /// The lowest number that no accepted packet has carried: all below it are applied. May reach 4,294,967,296.
@@ -308,18 +297,19 @@ pub struct Numbers {
     /// How many insides are held.
     pub held: usize,
     /// The code of the last Trading Session; 0 before the first.
-    pub code: u8,
+    pub code: u64,
     /// The record of faults.
     pub faults: Faults,
 }
 
 /// The faults since the opening.
+#[repr(C)]
 #[derive(Clone, Copy, Debug, PartialEq, Eq)]
 pub struct Faults {
+    number: u64,
     /// How many messages faulted.
     pub count: u64,
-    number: u64,
-    reason: u8,
+    reason: u64,
 }
 
 impl Faults {
@@ -337,7 +327,7 @@ impl Faults {
     /// ```
     #[inline]
     pub fn first(&self) -> Option<(u64, Fault)> {
-        match Fault::try_from(self.reason) {
+        match Fault::try_from(self.reason as u8) {
             Ok(fault) if self.count > 0 => Some((self.number, fault)),
             _ => None,
         }

@@ -6,6 +6,7 @@
 #![allow(unsafe_code)]
 
 use crate::answers::{Answer, Question, Quote};
+use crate::session::Numbers;
 use crate::tables::Order;
 use std::mem::MaybeUninit;
 
@@ -41,6 +42,9 @@ const _: () = {
     );
     assert!(size_of::<Quote>() == 4 * size_of::<u64>() && align_of::<Quote>() == align_of::<u64>());
     assert!(size_of::<Question>() == 15 && align_of::<Question>() == 1);
+    assert!(
+        size_of::<Numbers>() == 8 * size_of::<u64>() && align_of::<Numbers>() == align_of::<u64>()
+    );
 };
 
 /// What the library answers where it was built for the memory and the limits of this crate.
@@ -266,11 +270,11 @@ impl Memory {
 
     /// next, end, live orders, insides held, code, the first fault's number, the count of faults, its reason.
     #[inline]
-    pub fn numbers(&self) -> [u64; 8] {
-        let mut told = MaybeUninit::<[u64; 8]>::uninit();
-        // SAFETY: as above; all eight numbers are written.
+    pub fn numbers(&self) -> Numbers {
+        let mut told = MaybeUninit::<Numbers>::uninit();
+        // SAFETY: as above; all eight numbers are written, and they are the fields in their order.
         unsafe {
-            jangsebit_numbers(&self.room, told.as_mut_ptr());
+            jangsebit_numbers(&self.room, told.as_mut_ptr().cast());
             told.assume_init()
         }
     }

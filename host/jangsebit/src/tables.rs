@@ -72,7 +72,7 @@ impl Order {
     };
 
     #[inline]
-    pub(crate) fn by(told: [u64; 8]) -> Order {
+    pub(crate) fn from_told(told: [u64; 8]) -> Order {
         let [id, price, shares, firm, front, back, side, unsolicited] = told;
         // The two numbers of a symbol are its first and its last eight bytes: two of them stand in both.
         let mut symbol = [0; 14];
@@ -125,7 +125,7 @@ pub struct Inside {
 
 impl Inside {
     #[inline]
-    pub(crate) fn by(symbol: [u8; 14], told: [u64; 6]) -> Inside {
+    pub(crate) fn from_told(symbol: [u8; 14], told: [u64; 6]) -> Inside {
         let [ask, bid, time, ask_volume, bid_volume, unsolicited] = told;
         Inside {
             symbol,

@@ -150,7 +150,7 @@ pub struct Messages<'a> {
 
 impl<'a> Messages<'a> {
     #[inline(always)]
-    pub fn of(packet: &'a [u8]) -> Self {
+    pub fn in_packet(packet: &'a [u8]) -> Self {
         Messages {
             left: &packet[HEADER..],
         }

@@ -73,7 +73,7 @@ impl Session {
     /// Whether a message differs from the copy that waits under its number.
     fn conflicts(&self, packet: &[u8], first: u64) -> bool {
         (first..)
-            .zip(Messages::of(packet))
+            .zip(Messages::in_packet(packet))
             .any(|(number, message)| {
                 number >= self.next && self.waits(number) && self.copy(number) != message
             })
@@ -81,7 +81,7 @@ impl Session {
 
     /// Keeps the messages of a packet that lies wholly above `next`.
     fn keep(&mut self, packet: &[u8], first: u64) {
-        for (number, message) in (first..).zip(Messages::of(packet)) {
+        for (number, message) in (first..).zip(Messages::in_packet(packet)) {
             let place = place_of(number);
             if self.sizes[place] == 0 {
                 self.sizes[place] = message.len() as u8;
@@ -96,7 +96,7 @@ impl Session {
     #[inline(always)]
     fn run(&mut self, packet: &[u8], first: u64) {
         let old = (self.next - first) as usize;
-        for message in Messages::of(packet).skip(old) {
+        for message in Messages::in_packet(packet).skip(old) {
             if self.waiting != 0 {
                 self.free(self.next);
             }

@@ -58,10 +58,10 @@ use Rattle.book.specs.declared.asking.OrderReply.{OrderReply}
 use Rattle.book.proofs.tables.Order as Or
 use Rattle.book.proofs.tables.Order.Laws as Or′
 use Rattle.session_lent.proofs.Orders.{PS, elems, Behind, machine, cell, rest, opened-up, put-together, one-out, one-back}
-use Rattle.exports.specs.Spots.{replyAt, Spotted}
-use Rattle.exports.specs.declared.asking.Spot.{Spot}
-use Rattle.exports.proofs.asking.Spot as Sp
-use Rattle.exports.proofs.asking.Spot.Laws as Sp′
+use Rattle.exports.specs.OrderPlaces.{replyAt, Located}
+use Rattle.exports.specs.declared.asking.OrderPlace.{OrderPlace}
+use Rattle.exports.proofs.asking.OrderPlace as Sp
+use Rattle.exports.proofs.asking.OrderPlace.Laws as Sp′
 use Rattle.exports.proofs.asking.locate as lo
 use Rattle.exports.proofs.asking.locate.Symbol as lo-def
 use Rattle.exports.proofs.asking.locate.Symbol.{name as #locate}
@@ -80,13 +80,13 @@ abbrev stayed : Stays (f.ended .signature .params) (f.ended .kept)
 stayed = (passed (shrRefTo (0 ∷ []) tt (plain (λ _. T.the-row))) yes, (passed (shrRefTo (1 ∷ []) tt (ArrayOf (plain (λ _. u64)) (λ _. tt) 2306)) yes, (passed (shrRefTo (2 ∷ []) tt (ArrayOf (plain (λ _. u8)) (λ _. tt) 14)) yes, (passed (mutRefTo (3 ∷ []) tt (ArrayOf (plain (λ _. u64)) (λ _. tt) 8)) yes, tt))))
 
 -- what is found, and what is told of an order, by the lists lent
-abbrev Found : List ℕ → List ℕ → Spot → Type 0
-Found room id s = (session : Session) (window : List ℕ) → Ruled (held session room window) → Spotted session room id s
+abbrev Found : List ℕ → List ℕ → OrderPlace → Type 0
+Found room id s = (session : Session) (window : List ℕ) → Ruled (held session room window) → Located session room id s
 
-abbrev Refusal : Spot → Order → ℕ → Type 0
+abbrev Refusal : OrderPlace → Order → ℕ → Type 0
 Refusal s there r = r ≡ refusalIn (replyAt s there .reply)
 
-abbrev Told : Spot → Order → List ℕ → List ℕ → Type 0
+abbrev Told : OrderPlace → Order → List ℕ → List ℕ → Type 0
 Told s there told told′ = told′ ≡ orderTold (replyAt s there) told
 
 wide40 : (i : ℕ) → i < 256 → i * 40 < 2 ^ 64
@@ -127,28 +127,28 @@ module _ {M : Type 1} (𝓤 : URA M) (H : Heap 𝓤) (A : Atoms 𝓤) (W : Given
       qed W (‵ (flft κ₁ q₁) ∷ ‵ (flft κ₂ q₂) ∷ own₁ ∷ own₂ ∷ []) ∵ says ! rule $ nothing ! $ move ! (1 ∷ 2 ∷ 0 ∷ []) $ group ! 3 $ frame ! $
       nothing ! $ move ! (2 ∷ 0 ∷ []) $ fjoin ! $ move ! (1 ∷ 0 ∷ []) $ fjoin ! $ done !
 
-  -- the spot that was found, and the order there
-  module _ (s : Spot) where
-    abbrev spot : List Val
-    spot = LL.vals Sp.the-type Sp′.the-laws s
+  -- the place that was found, and the order there
+  module _ (s : OrderPlace) where
+    abbrev located : List Val
+    located = LL.vals Sp.the-type Sp′.the-laws s
 
     abbrev there : Order
     there = getD (h .orders) (s .place) blank
 
-    abbrev args : RefT (List ℕ) × (Spot × (Order × Unit {0}))
+    abbrev args : RefT (List ℕ) × (OrderPlace × (Order × Unit {0}))
     args = (p₃, (s, (there, tt)))
 
     abbrev vals : List Val × (List Val × (List Val × Unit {0}))
-    vals = (ptr-vals p₃, (spot, (LL.vals Or.the-type Or′.the-laws there, tt)))
+    vals = (ptr-vals p₃, (located, (LL.vals Or.the-type Or′.the-laws there, tt)))
 
     abbrev to-tell : Tell 𝓤 H A at-mem run .Ghost
     to-tell = (((κ₃, tt), (q₃, tt), tt, args, vals), tt)
 
-    asks-tell : Is Sp.the-row s spot → Is Or.the-row there (LL.vals Or.the-type Or′.the-laws there) → ent 𝓤 (⋆ 𝓤 H A (‵ (flft κ₃ q₃) ∷ own₃ ∷ [])) (Tell 𝓤 H A at-mem run .pre to-tell)
-    asks-tell spot-is there-is =
+    asks-tell : Is Sp.the-row s located → Is Or.the-row there (LL.vals Or.the-type Or′.the-laws there) → ent 𝓤 (⋆ 𝓤 H A (‵ (flft κ₃ q₃) ∷ own₃ ∷ [])) (Tell 𝓤 H A at-mem run .pre to-tell)
+    asks-tell located-is there-is =
         qed W (‵ (flft κ₃ q₃) ∷ own₃ ∷ []) ∵ suffices ! (onEntry 𝓤 H A te.signature (κ₃, tt) (q₃, tt) args vals) (∗emp 𝓤 _) $ nothing ! $ move ! (1 ∷ 0 ∷ []) $ join ! $ frame ! $
         nothing ! $ owned ! Or.the-row (Is Or.the-row) (LL.makes Or.the-type Or′.the-plain 𝓤 H A) there (LL.vals Or.the-type Or′.the-laws there) there-is $ fjoin ! $
-        owned ! Sp.the-row (Is Sp.the-row) (LL.makes Sp.the-type Sp′.the-plain 𝓤 H A) s spot spot-is $ fjoin ! $ move ! (1 ∷ 0 ∷ []) $ fjoin ! $ done !
+        owned ! Sp.the-row (Is Sp.the-row) (LL.makes Sp.the-type Sp′.the-plain 𝓤 H A) s located located-is $ fjoin ! $ move ! (1 ∷ 0 ∷ []) $ fjoin ! $ done !
 
     -- what is promised, by the answer to the question
     Promised : ℕ → Type 0
@@ -157,12 +157,12 @@ module _ {M : Type 1} (𝓤 : URA M) (H : Heap 𝓤) (A : Atoms 𝓤) (W : Given
     Written : List ℕ → Type 0
     Written told′ = told′ ≡ orderTold (orderAsked (tablesIn h (p₁ .now)) (p₂ .now)) (p₃ .now)
 
-    exits : (r : ℕ) (v : Val) (ws : Lasts te.ended (κ₃, tt) args) → Spotted h (p₁ .now) (p₂ .now) s → Refusal s there r → Told s there (p₃ .now) (ws .0) → ent 𝓤 (⋆ 𝓤 H A (‵ (u64 .own r (v ∷ [])) ∷ ‵ (flft κ q) ∷ ‵ (flft κ₁ q₁) ∷ ‵ (flft κ₂ q₂) ∷ ‵ (flft κ₃ q₃) ∷ ‵ (lasts te.ended (κ₃, tt) args ws) ∷ [])) (Post v)
+    exits : (r : ℕ) (v : Val) (ws : Lasts te.ended (κ₃, tt) args) → Located h (p₁ .now) (p₂ .now) s → Refusal s there r → Told s there (p₃ .now) (ws .0) → ent 𝓤 (⋆ 𝓤 H A (‵ (u64 .own r (v ∷ [])) ∷ ‵ (flft κ q) ∷ ‵ (flft κ₁ q₁) ∷ ‵ (flft κ₂ q₂) ∷ ‵ (flft κ₃ q₃) ∷ ‵ (lasts te.ended (κ₃, tt) args ws) ∷ [])) (Post v)
     unfolding Promised Written
-    exits r v ws spotted e₁ e₂ =
+    exits r v ws located-so e₁ e₂ =
         qed W (‵ (u64 .own r (v ∷ [])) ∷ ‵ (flft κ q) ∷ ‵ (flft κ₁ q₁) ∷ ‵ (flft κ₂ q₂) ∷ ‵ (flft κ₃ q₃) ∷ ‵ (lasts te.ended (κ₃, tt) args ws) ∷ []) ∵
         suffices ! _ (ends-at 𝓤 H A f.ended stayed (f.clauses 𝓤 H A at-mem run) W (((κ, (κ₁, (κ₂, (κ₃, tt)))), (q, (q₁, (q₂, (q₃, tt)))), tt, x, at), tt) v r (tt, (tt, (tt, (ws .0, tt)))) (tt, (tt, (tt, (tt, tt))))) $
-        says-all ! (and-one 𝓤 (Promised r) (fact 𝓤 (Written (ws .0))) (e₁ ∙ ap (λ (a : OrderReply). refusalIn (a .reply)) (spotted .answer)) (one 𝓤 (Written (ws .0)) (e₂ ∙ ap (λ (a : OrderReply). orderTold a (p₃ .now)) (spotted .answer)))) $
+        says-all ! (and-one 𝓤 (Promised r) (fact 𝓤 (Written (ws .0))) (e₁ ∙ ap (λ (a : OrderReply). refusalIn (a .reply)) (located-so .answer)) (one 𝓤 (Written (ws .0)) (e₂ ∙ ap (λ (a : OrderReply). orderTold a (p₃ .now)) (located-so .answer)))) $
         nothing ! $ move ! (2 ∷ 3 ∷ 4 ∷ 5 ∷ 0 ∷ []) $ group ! 5 $ frame ! $
         -- [the result; what is said of the last value]
         move ! (1 ∷ []) $ fsplit ! $ move ! (1 ∷ []) $ drop ! $ nothing ! $ move ! (1 ∷ 0 ∷ []) $ fjoin ! $ nothing ! $ fjoin ! $ nothing ! $ fjoin ! $ nothing ! $ fjoin ! $ frame ! $ done !
@@ -182,10 +182,10 @@ module _ {M : Type 1} (𝓤 : URA M) (H : Heap 𝓤) (A : Atoms 𝓤) (W : Given
         move ! (26 ∷ 27 ∷ 28 ∷ 29 ∷ []) $ group ! 4 $ use1 W (raw (Locate 𝓤 H A at-mem run .pre to-locate)) (asks-locate (h, rule .0, rule .1)) $
         -- [what is asked; room or value of each local, the last first, with what frees it; the fractured borrow; its token; told's token; told]
         calls-at ! fm (Locate 𝓤 H A at-mem run) locate-known to-locate (and-then ! (load ! (from ! (stop !)) (look ! 19 refl)) (and-then ! (load ! (from ! (stop !)) (look ! 17 refl)) (no-more !))) (λ v.
-        use1 W (later (some (λ (s : Spot). ((‵ (flft κ₁ q₁) ⊛ ‵ (flft κ₂ q₂) ⊛ ‵ ftrue) ⊛ ‵ (Sp.the-row .own s (v ∷ []))) ⊛ raw (ensured 𝓤 H A lo.ended (lo.clauses 𝓤 H A at-mem run) (κ₁, (κ₂, tt)) (p₁, (p₂, tt)) tt s)))) (id⊢ 𝓤 _) $ await ! tt $ pick ! (λ s.
+        use1 W (later (some (λ (s : OrderPlace). ((‵ (flft κ₁ q₁) ⊛ ‵ (flft κ₂ q₂) ⊛ ‵ ftrue) ⊛ ‵ (Sp.the-row .own s (v ∷ []))) ⊛ raw (ensured 𝓤 H A lo.ended (lo.clauses 𝓤 H A at-mem run) (κ₁, (κ₂, tt)) (p₁, (p₂, tt)) tt s)))) (id⊢ 𝓤 _) $ await ! tt $ pick ! (λ s.
         split ! $ move ! (1 ∷ []) $ use1 W (some (λ (ws : Lasts lo.ended (κ₁, (κ₂, tt)) (p₁, (p₂, tt))). ‵ (lasts lo.ended (κ₁, (κ₂, tt)) (p₁, (p₂, tt)) ws) ⊛ raw (fact 𝓤 (Found (p₁ .now) (p₂ .now) s)))) (id⊢ 𝓤 _) $ pick ! (λ ws₁.
         split ! $ drop ! $ heard ! (Found (p₁ .now) (p₂ .now) s) (λ found. split ! $ split ! $ move ! (1 ∷ []) $ split ! $ move ! (1 ∷ []) $ drop ! $
-        -- [id's token; room's token; the spot; the locals; the fractured borrow; its token; told's token; told]
+        -- [id's token; room's token; the place; the locals; the fractured borrow; its token; told's token; told]
         move ! (2 ∷ []) $ peeks ! Sp.the-row (Is Sp.the-row) (shows 𝓤 H A Sp.the-row) s (v ∷ []) (λ told-is. drop ! $
         land ! (from ! (stop !)) (init ! 14 refl (LL.lawful Sp.the-type Sp′.the-laws 𝓤 H A W .typed s _ told-is .0)) $
         rewrite ! 14 (λ (u : Val). ‵ (fat fullShare Sp′.mir l₅ 0 u)) (ap only (LL.tells Sp.the-type Sp′.the-laws s (v ∷ []) told-is)) refl $

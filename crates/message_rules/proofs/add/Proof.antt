@@ -1,13 +1,13 @@
 -- The first broken field of an Order Add.
 -- Assumes nothing.
 use mathlib.Core.Path.{refl}
-use Rattle.message.proofs.Cases.{first-is}
+use Rattle.message.proofs.Cases.{broken-is}
 use borrow.Author.Needs.{needs}
 use Rattle.message_rules.proofs.add.Statement.{statement}
 use Rattle.message_rules.proofs.add.Tie as tie
 
 returns : tie.Need-returns
-returns c = (let sided = c .before in let sided-test = sided .before in let dealt = sided-test .before in let told = dealt .before in let told-test = told .before in first-is 7 (c .first3 .ensures) refl (first-is 21 (sided .first2 .ensures) (sided-test .good-side .ensures) (first-is 22 (dealt .deal .ensures) refl (first-is 26 refl refl (first-is 40 refl refl (first-is 52 (told .first .ensures) (told-test .good-unsolicited .ensures) refl))))))
+returns c = (let sided = c .before in let sided-test = sided .before in let dealt = sided-test .before in let told = dealt .before in let told-test = told .before in broken-is 7 (c .broken-or3 .ensures) refl (broken-is 21 (sided .broken-or2 .ensures) (sided-test .good-side .ensures) (broken-is 22 (dealt .deal .ensures) refl (broken-is 26 refl refl (broken-is 40 refl refl (broken-is 52 (told .broken-or .ensures) (told-test .good-unsolicited .ensures) refl))))))
 
 pub add-spec : {M : Type 1} → statement M
 add-spec =

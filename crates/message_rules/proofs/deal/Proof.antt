@@ -1,13 +1,13 @@
 -- The first broken field of what is offered or was exchanged.
 -- Assumes nothing.
 use mathlib.Core.Path.{refl}
-use Rattle.message.proofs.Cases.{first-is}
+use Rattle.message.proofs.Cases.{broken-is}
 use borrow.Author.Needs.{needs}
 use Rattle.message_rules.proofs.deal.Statement.{statement}
 use Rattle.message_rules.proofs.deal.Tie as tie
 
 returns : tie.Need-returns
-returns c = (let sized-test = c .before in let about = sized-test .before in let about-test = about .before in let priced = about-test .before in let priced-test = priced .before in first-is _ (c .first3 .ensures) (sized-test .good-quantity .ensures) (first-is _ (about .first2 .ensures) (about-test .good-symbol .ensures) (first-is _ (priced .first .ensures) (priced-test .good-price .ensures) refl)))
+returns c = (let sized-test = c .before in let about = sized-test .before in let about-test = about .before in let priced = about-test .before in let priced-test = priced .before in broken-is _ (c .broken-or3 .ensures) (sized-test .good-quantity .ensures) (broken-is _ (about .broken-or2 .ensures) (about-test .good-symbol .ensures) (broken-is _ (priced .broken-or .ensures) (priced-test .good-price .ensures) refl)))
 
 pub deal-spec : {M : Type 1} → statement M
 deal-spec =

@@ -8,7 +8,7 @@ mod Plain
 mod Frame
 mod Storing
 mod Settling
-mod Turning
+mod NextMessage
 mod Leaving
 mod Looping
 mod Starting

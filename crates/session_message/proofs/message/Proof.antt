@@ -14,10 +14,10 @@ front : tie.Need-slice-aggregate-result
 front c = sym (length-take-le (to.entry-from-result c .args .size) (to.entry-from-result c .args .text .now) (to.entry-from-result c .pre .0))
 
 returns : tie.Need-returns
-returns c = sym (message-window (to.entry-from-result c .args .source) (to.then1-from-result c .if1 .taken) (to.entry-from-result c .args .text .now) (to.entry-from-result c .args .s .now) (to.entry-from-result c .args .size))
+returns c = sym (message-window (to.entry-from-result c .args .rest) (to.then1-from-result c .if1 .taken) (to.entry-from-result c .args .text .now) (to.entry-from-result c .args .s .now) (to.entry-from-result c .args .size))
 
 returns-2 : tie.Need-returns-2
-returns-2 c = lent-packet (to.entry-from-result2 c .args .source) (to.else1-from-result2 c .if1 .left) (to.entry-from-result2 c .args .text .now) (to.entry-from-result2 c .pre .1)
+returns-2 c = lent-packet (to.entry-from-result2 c .args .rest) (to.else1-from-result2 c .if1 .left) (to.entry-from-result2 c .args .text .now) (to.entry-from-result2 c .pre .1)
 
 pub message-spec : {M : Type 1} → statement M
 message-spec =

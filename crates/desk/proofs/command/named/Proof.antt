@@ -8,11 +8,11 @@ use Rattle.desk.proofs.command.named.Tie as tie
 
 returns : tie.Need-returns
 unfolding namedOf
-returns c = simp (sym (c .before .is .ensures) ∙ c .if1 .taken)
+returns c = simp (sym (c .before .is-name .ensures) ∙ c .if1 .taken)
 
 returns-2 : tie.Need-returns-2
 unfolding namedOf
-returns-2 c = simp (sym (c .before .is .ensures) ∙ c .if1 .left)
+returns-2 c = simp (sym (c .before .is-name .ensures) ∙ c .if1 .left)
 
 pub named-spec : {M : Type 1} → statement M
 named-spec =

@@ -8,7 +8,7 @@ use Rattle.exports.proofs.asking.jangsebit_numbers.Statement.{statement
 use Rattle.exports.proofs.asking.jangsebit_numbers.Tie as tie
 
 returns : tie.Need-returns
-returns c = numbers-told (to.entry-from-told2 c .args .room .now) (to.entry-from-told2 c .args .told .now) (to.next-from-told2 c .next .ensures) (to.end-from-told2 c .end .ensures) (to.code-from-told2 c .code .ensures) (to.faults-from-told2 c .faults .ensures)
+returns c = numbers-told (to.entry-from-faults c .args .room .now) (to.entry-from-faults c .args .told .now) (to.next-from-faults c .next .ensures) (to.end-from-faults c .end .ensures) (to.code-from-faults c .code .ensures) (c .faults .ensures)
 
 pub jangsebit-numbers-spec : {M : Type 1} → statement M
 jangsebit-numbers-spec =
@@ -16,10 +16,10 @@ jangsebit-numbers-spec =
     (tie.spec
     (λ c κs. search needs)
     (λ c κs. search needs)
-    (λ c κs. search needs)
-    (λ c κs. search needs)
     (λ c. search needs)
     (λ c. search needs)
+    (λ c κs. search needs)
+    (λ c κs. search needs)
     (λ c. search needs)
     (λ c. search needs)
     (λ c. search needs)

@@ -20,11 +20,11 @@ use Rattle.session.proofs.advancing.advance.Statement.{statement}
 use Rattle.session.proofs.advancing.advance.Tie as tie
 
 abbrev Inv-loop : tie.InvT-loop
-Inv-loop room₀ window₀ packets single digits text₀ answers₀ next₀ turn₀ source₀ room window text answers next turn source =
-    Onward packets single room₀ window₀ answers₀ text₀ (betweenOf next₀ turn₀ source₀) room window answers text (betweenOf next turn source)
+Inv-loop room₀ window₀ packets single digits text₀ answers₀ next₀ turn₀ rest₀ room window text answers next turn rest =
+    Onward packets single room₀ window₀ answers₀ text₀ (betweenOf next₀ turn₀ rest₀) room window answers text (betweenOf next turn rest)
 
 abbrev μ-loop : tie.MeasureT-loop
-μ-loop room₀ window₀ packets single digits text₀ answers₀ next₀ turn₀ source₀ room window text answers next turn source = turn .left * 257 + (turn .before + 256 - next)
+μ-loop room₀ window₀ packets single digits text₀ answers₀ next₀ turn₀ rest₀ room window text answers next turn rest = turn .left * 257 + (turn .before + 256 - next)
 
 packet-bytes : (c : tie.After-shared-slice-known Inv-loop μ-loop) → Bytes (to.entry-from-shared-slice-known c .args .packets .now)
 packet-bytes c = bytes-of (to.entry-from-shared-slice-known c .args .packets .now) (λ i. omega (arith, c .shared-slice-known .given i))
@@ -38,10 +38,10 @@ loop-holds c = record { all = λ t os g. g; few = omega arith }
 -- ---- a run that was at the point is where the loop is
 
 abbrev From : (c : tie.At-loop Inv-loop μ-loop) → Task → List Order → Type 0
-From c t os = Going t (to.entry-from-loop c .args .packets .now) (to.entry-from-loop c .args .single) os (to.entry-from-loop c .args .room .now) (to.entry-from-loop c .args .window .now) (to.entry-from-loop c .args .answers .now) (to.entry-from-loop c .args .text .now) (betweenOf (to.entry-from-loop c .args .point .next) (to.entry-from-loop c .args .point .turn) (to.entry-from-loop c .args .point .source))
+From c t os = Going t (to.entry-from-loop c .args .packets .now) (to.entry-from-loop c .args .single) os (to.entry-from-loop c .args .room .now) (to.entry-from-loop c .args .window .now) (to.entry-from-loop c .args .answers .now) (to.entry-from-loop c .args .text .now) (betweenOf (to.entry-from-loop c .args .point .next) (to.entry-from-loop c .args .point .turn) (to.entry-from-loop c .args .point .rest))
 
 abbrev is-at : (c : tie.At-loop Inv-loop μ-loop) {t : Task} {os : List Order} → From c t os
-    → Going t (to.entry-from-loop c .args .packets .now) (to.entry-from-loop c .args .single) os (c .loop .room) (c .loop .window) (c .loop .answers) (c .loop .text) (betweenOf (c .loop .next) (c .loop .turn) (c .loop .source))
+    → Going t (to.entry-from-loop c .args .packets .now) (to.entry-from-loop c .args .single) os (c .loop .room) (c .loop .window) (c .loop .answers) (c .loop .text) (betweenOf (c .loop .next) (c .loop .turn) (c .loop .rest))
 is-at c {t} {os} g = c .loop .inv .all t os g
 
 -- the run that is asked for
@@ -49,7 +49,7 @@ asked : (c : tie.At-loop Inv-loop μ-loop) → From c (to.entry-from-loop c .pre
 asked c = from-between (to.entry-from-loop c .pre .1 .2)
 
 abbrev one : (c : tie.At-loop Inv-loop μ-loop)
-    → Going (to.entry-from-loop c .pre .1 .0) (to.entry-from-loop c .args .packets .now) (to.entry-from-loop c .args .single) (to.entry-from-loop c .pre .1 .1) (c .loop .room) (c .loop .window) (c .loop .answers) (c .loop .text) (betweenOf (c .loop .next) (c .loop .turn) (c .loop .source))
+    → Going (to.entry-from-loop c .pre .1 .0) (to.entry-from-loop c .args .packets .now) (to.entry-from-loop c .args .single) (to.entry-from-loop c .pre .1 .1) (c .loop .room) (c .loop .window) (c .loop .answers) (c .loop .text) (betweenOf (c .loop .next) (c .loop .turn) (c .loop .rest))
 one c = is-at c (asked c)
 
 -- ---- nothing waits
@@ -74,7 +74,7 @@ follow-requires c κs =
     let free = to.then1-from-follow-arg c .if1 .taken in
     (holds o told free, (more o told free (to.close-from-follow-arg c .close .ensures) (sym (to.done-from-follow-arg c .done .ensures) ∙ to.else2-from-follow-arg c .if2 .left), known o told free))
 
-less : (c : tie.After-follow Inv-loop μ-loop) → stepsLeft (betweenOf (to.loop-from-follow c .loop .next) (c .follow .result) (to.loop-from-follow c .loop .source)) < stepsLeft (betweenOf (to.loop-from-follow c .loop .next) (to.loop-from-follow c .loop .turn) (to.loop-from-follow c .loop .source))
+less : (c : tie.After-follow Inv-loop μ-loop) → stepsLeft (betweenOf (to.loop-from-follow c .loop .next) (c .follow .result) (to.loop-from-follow c .loop .rest)) < stepsLeft (betweenOf (to.loop-from-follow c .loop .next) (to.loop-from-follow c .loop .turn) (to.loop-from-follow c .loop .rest))
 less c =
     less-turn (to.loop-from-follow c .loop .turn) (c .follow .result) (to.loop-from-follow c .loop .next) (ap (λ (t : Turn). t .left) (c .follow .ensures .0)) (ap (λ (t : Turn). t .before) (c .follow .ensures .0))
     (more (one (to.loop-from-follow c) .now) (to.size-from-follow c .size .ensures) (to.then1-from-follow c .if1 .taken) (to.close-from-follow c .close .ensures) (sym (to.done-from-follow c .done .ensures) ∙ to.else2-from-follow c .if2 .left) .left)
@@ -97,7 +97,7 @@ loop-again c =
 
 -- ---- a message waits
 
-at : (c : tie.After-fetch Inv-loop μ-loop) → Here (to.entry-from-fetch c .args .packets .now) (to.loop-from-fetch c .loop .source) (to.size-from-fetch c .size .result) (c .fetch .last .0) (to.loop-from-fetch c .loop .next) (to.loop-from-fetch c .loop .turn .before)
+at : (c : tie.After-fetch Inv-loop μ-loop) → Here (to.entry-from-fetch c .args .packets .now) (to.loop-from-fetch c .loop .rest) (to.size-from-fetch c .size .result) (c .fetch .last .0) (to.loop-from-fetch c .loop .next) (to.loop-from-fetch c .loop .turn .before)
 at c =
     let g = one (to.loop-from-fetch c) in
     here (g .now) (to.size-from-fetch c .size .ensures) (to.else1-from-fetch c .if1 .left) (to.loop-from-fetch c .loop .text) (g .wide) (c .fetch .ensures)

@@ -4,14 +4,14 @@ mod Points
 use mathlib.Core.Path.{_∙_}
 use Prim.Native.Nat.{_<_}
 use native.Mathlib.Omega.{arith}
-use Rattle.session.proofs.Answers.{bad-asked, known-asked, none-asked, orders-long, some-book, spot-few}
+use Rattle.session.proofs.Answers.{bad-asked, known-asked, none-asked, orders-long, some-book, order-few}
 use borrow.Author.Needs.{needs}
 use Rattle.session.proofs.asking.order.Proof.Points as to
 use Rattle.session.proofs.asking.order.Statement.{statement}
 use Rattle.session.proofs.asking.order.Tie as tie
 
 small : (c : tie.After-known-told2) → to.place-from-known-told2 c .place .given .0 .0 < 256
-small c = spot-few (to.entry-from-known-told2 c .pre .1) _ (to.value-from-known-told2 c .value .ensures) (to.key-from-known-told2 c .key .given .1) (to.found-from-known-told2 c .found .ensures) (to.place-from-known-told2 c .place .given .1)
+small c = order-few (to.entry-from-known-told2 c .pre .1) _ (to.value-from-known-told2 c .value .ensures) (to.key-from-known-told2 c .key .given .1) (to.found-from-known-told2 c .found .ensures) (to.place-from-known-told2 c .place .given .1)
 
 pub order-spec : {M : Type 1} → statement M
 order-spec =

@@ -50,7 +50,7 @@ abbrev pub reft : ℕ → ℕ → GName → List ℕ → RefT (List ℕ)
 reft b o name xs = record { ptr = (b, o); name = name; now = xs }
 
 -- where the parameters and the locals lie, and under which names
-pub record Spots : Type 0 where
+pub record Locals : Type 0 where
   pub κ : Lft
   pub κ₁ : Lft
   pub κ₂ : Lft
@@ -122,8 +122,8 @@ pub record Spots : Type 0 where
   pub l₃₉ : ℕ
   pub l₄₀ : ℕ
 
-module _ (z : Spots) where
-  open Spots z using (κ, κ₁, κ₂, κ₃, κ₄, q, q₁, q₂, q₃, q₄, αd, γd, b, o, γ, h, b₁, o₁, γ₁, b₂, o₂, γ₂, p₃, single, count, b₄, o₄, n₄, γ₄, l₀, l₁, l₂, l₃, l₄, l₅, l₆, l₇, l₈, l₉, l₁₀, l₁₁, l₁₂, l₁₃, l₁₄, l₁₅, l₁₆, l₁₇, l₁₈, l₁₉, l₂₀, l₂₁, l₂₂, l₂₃, l₂₄, l₂₅, l₂₆, l₂₇, l₂₈, l₂₉, l₃₀, l₃₁, l₃₂, l₃₃, l₃₄, l₃₅, l₃₆, l₃₇, l₃₈, l₃₉, l₄₀)
+module _ (z : Locals) where
+  open Locals z using (κ, κ₁, κ₂, κ₃, κ₄, q, q₁, q₂, q₃, q₄, αd, γd, b, o, γ, h, b₁, o₁, γ₁, b₂, o₂, γ₂, p₃, single, count, b₄, o₄, n₄, γ₄, l₀, l₁, l₂, l₃, l₄, l₅, l₆, l₇, l₈, l₉, l₁₀, l₁₁, l₁₂, l₁₃, l₁₄, l₁₅, l₁₆, l₁₇, l₁₈, l₁₉, l₂₀, l₂₁, l₂₂, l₂₃, l₂₄, l₂₅, l₂₆, l₂₇, l₂₈, l₂₉, l₃₀, l₃₁, l₃₂, l₃₃, l₃₄, l₃₅, l₃₆, l₃₇, l₃₈, l₃₉, l₄₀)
 
   abbrev pub digits : RefT (List ℕ)
   digits = reft l₈ 0 γd digitTable

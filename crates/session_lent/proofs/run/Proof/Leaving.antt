@@ -66,7 +66,7 @@ use Rattle.session.proofs.advancing.Ended as Ed
 use Rattle.session.proofs.running.ended.Symbol.{name as #ended}
 use Rattle.session_lent.proofs.Orders.{put-together}
 use Rattle.session_lent.proofs.run.Proof.Plain as Plain
-use Rattle.session_lent.proofs.run.Proof.Frame.{Spots, Γ, En, free, digits, Rooms, Places, Digits, Text, reft}
+use Rattle.session_lent.proofs.run.Proof.Frame.{Locals, Γ, En, free, digits, Rooms, Places, Digits, Text, reft}
 use Rattle.session_lent.proofs.run.Code.Mir.{t-9}
 
 module _ {M : Type 1} (𝓤 : URA M) (H : Heap 𝓤) (A : Atoms 𝓤) (W : Given 𝓤 H A) (n : ℕ) where
@@ -82,8 +82,8 @@ module _ {M : Type 1} (𝓤 : URA M) (H : Heap 𝓤) (A : Atoms 𝓤) (W : Given
       qed W (‵ (mem (Arr u8 n) .lies xs l 0) ∷ []) ∵ fpick ! (λ vs. fsplit ! $ spelt ! (Arr u8 n) (Is (Arr u8 n)) (shows 𝓤 H A (Arr u8 n)) (array-vals (uint-vals w8)) (array-tells u8 (uint-vals w8) (uint-tells w8) n) fullShare xs vs l 0 $
       forget ! 0 refl $ keep ! (0 ∷ []) $ done !)
 
-module _ (z : Spots) where
-  open Spots z using (κ, κ₁, κ₂, κ₃, κ₄, q, q₁, q₂, q₃, q₄, αd, γd, b, o, γ, h, b₁, o₁, γ₁, b₂, o₂, γ₂, p₃, single, count, b₄, o₄, n₄, γ₄, l₀, l₁, l₂, l₃, l₄, l₅, l₆, l₇, l₈, l₉, l₁₀, l₁₁, l₁₂, l₁₃, l₁₄, l₁₅, l₁₆, l₁₇, l₁₈, l₁₉, l₂₀, l₂₁, l₂₂, l₂₃, l₂₄, l₂₅, l₂₆, l₂₇, l₂₈, l₂₉, l₃₀, l₃₁, l₃₂, l₃₃, l₃₄, l₃₅, l₃₆, l₃₇, l₃₈, l₃₉, l₄₀)
+module _ (z : Locals) where
+  open Locals z using (κ, κ₁, κ₂, κ₃, κ₄, q, q₁, q₂, q₃, q₄, αd, γd, b, o, γ, h, b₁, o₁, γ₁, b₂, o₂, γ₂, p₃, single, count, b₄, o₄, n₄, γ₄, l₀, l₁, l₂, l₃, l₄, l₅, l₆, l₇, l₈, l₉, l₁₀, l₁₁, l₁₂, l₁₃, l₁₄, l₁₅, l₁₆, l₁₇, l₁₈, l₁₉, l₂₀, l₂₁, l₂₂, l₂₃, l₂₄, l₂₅, l₂₆, l₂₇, l₂₈, l₂₉, l₃₀, l₃₁, l₃₂, l₃₃, l₃₄, l₃₅, l₃₆, l₃₇, l₃₈, l₃₉, l₄₀)
 
   module _ {M : Type 1} (𝓤 : URA M) (H : Heap 𝓤) (A : Atoms 𝓤) (W : Given 𝓤 H A) (at-mem : Memory → SProp 𝓤) (run : Routine → Fun 𝓤) (C : Calls 𝓤 H) (Λ : Loops 𝓤 H) (fm : FmC 𝓤 H (W .laws) C) (finish-known : Triple 𝓤 (C #ended) (Plain.Finish 𝓤 H A W at-mem run)) (Post : Val → SProp 𝓤) (task : Task) (counted : task .count ≡ count) (fits : count < 2 ^ 64)
       (exits : (os : List Order) (rm wn an : List ℕ) (pt : Point) (r : Ended) (v : Val) → length an ≡ n₄ → Over task (p₃ .now) single os rm wn an pt → r ≡ Plain.due 𝓤 H A W at-mem run count pt → ent 𝓤 (⋆ 𝓤 H A (‵ (fobs γ (T.the-row .coded .code (record { orders = os }))) ∷ ‵ (fbor κ (Body (mem T.the-row) b o γ)) ∷ ‵ (flft κ q) ∷ ‵ (MutRef (named 1) κ₁ Rooms .own (reft b₁ o₁ γ₁ rm) (vptr b₁ o₁ ∷ [])) ∷ ‵ (flft κ₁ q₁) ∷ ‵ (MutRef (named 2) κ₂ Places .own (reft b₂ o₂ γ₂ wn) (vptr b₂ o₂ ∷ [])) ∷ ‵ (flft κ₂ q₂) ∷ ‵ (flft κ₃ q₃) ∷ ‵ (MutSlice (named 4) κ₄ u64 .own (reft b₄ o₄ γ₄ an) (sliceVal (b₄, o₄) n₄ ∷ [])) ∷ ‵ (flft κ₄ q₄) ∷ ‵ (Ed.the-row .own r (v ∷ [])) ∷ [])) (Post v))

@@ -67,14 +67,14 @@ use Rattle.session_lent.proofs.settle.Symbol.{name as #settle}
 use Rattle.session_lent.proofs.run.Proof.Plain as Plain
 use Rattle.session_lent.proofs.run.Proof.Advance as Advance
 use Rattle.session_lent.proofs.run.Proof.Settle as Settle
-use Rattle.session_lent.proofs.run.Proof.Frame.{Spots, Γ, En, free, digits, Rooms, Places, Digits, Text, reft}
+use Rattle.session_lent.proofs.run.Proof.Frame.{Locals, Γ, En, free, digits, Rooms, Places, Digits, Text, reft}
 use Rattle.session_lent.proofs.run.Proof.Settling.{settles}
-use Rattle.session_lent.proofs.run.Proof.Turning.{turns}
+use Rattle.session_lent.proofs.run.Proof.NextMessage.{turns}
 use Rattle.session_lent.proofs.run.Proof.Leaving.{leaves}
 use Rattle.session_lent.proofs.run.Code.Mir.{turn-1, t-9}
 
-module _ (z : Spots) where
-  open Spots z using (κ, κ₁, κ₂, κ₃, κ₄, q, q₁, q₂, q₃, q₄, αd, γd, b, o, γ, h, b₁, o₁, γ₁, b₂, o₂, γ₂, p₃, single, count, b₄, o₄, n₄, γ₄, l₀, l₁, l₂, l₃, l₄, l₅, l₆, l₇, l₈, l₉, l₁₀, l₁₁, l₁₂, l₁₃, l₁₄, l₁₅, l₁₆, l₁₇, l₁₈, l₁₉, l₂₀, l₂₁, l₂₂, l₂₃, l₂₄, l₂₅, l₂₆, l₂₇, l₂₈, l₂₉, l₃₀, l₃₁, l₃₂, l₃₃, l₃₄, l₃₅, l₃₆, l₃₇, l₃₈, l₃₉, l₄₀)
+module _ (z : Locals) where
+  open Locals z using (κ, κ₁, κ₂, κ₃, κ₄, q, q₁, q₂, q₃, q₄, αd, γd, b, o, γ, h, b₁, o₁, γ₁, b₂, o₂, γ₂, p₃, single, count, b₄, o₄, n₄, γ₄, l₀, l₁, l₂, l₃, l₄, l₅, l₆, l₇, l₈, l₉, l₁₀, l₁₁, l₁₂, l₁₃, l₁₄, l₁₅, l₁₆, l₁₇, l₁₈, l₁₉, l₂₀, l₂₁, l₂₂, l₂₃, l₂₄, l₂₅, l₂₆, l₂₇, l₂₈, l₂₉, l₃₀, l₃₁, l₃₂, l₃₃, l₃₄, l₃₅, l₃₆, l₃₇, l₃₈, l₃₉, l₄₀)
 
   -- where the loop is between two turns
   pub record State (task : Task) : Type 0 where

@@ -77,14 +77,14 @@ use Rattle.session_lent.proofs.run.Proof.Plain as Plain
 use Rattle.session_lent.proofs.run.Proof.Begin as Begin
 use Rattle.session_lent.proofs.run.Proof.Advance as Advance
 use Rattle.session_lent.proofs.run.Proof.Settle as Settle
-use Rattle.session_lent.proofs.run.Proof.Frame.{Spots, Γa, Γb, En, Rooms, Places, Digits, Text, reft}
+use Rattle.session_lent.proofs.run.Proof.Frame.{Locals, Γa, Γb, En, Rooms, Places, Digits, Text, reft}
 use Rattle.session_lent.proofs.Orders.{opened-up}
 use Rattle.session_lent.proofs.run.Proof.Leaving.{laid}
 use Rattle.session_lent.proofs.run.Proof.Looping.{looping}
 use Rattle.session_lent.proofs.run.Code.Mir.{t-1, t-6}
 
-module _ (z : Spots) where
-  open Spots z using (κ, κ₁, κ₂, κ₃, κ₄, q, q₁, q₂, q₃, q₄, αd, γd, b, o, γ, h, b₁, o₁, γ₁, b₂, o₂, γ₂, p₃, single, count, b₄, o₄, n₄, γ₄, l₀, l₁, l₂, l₃, l₄, l₅, l₆, l₇, l₈, l₉, l₁₀, l₁₁, l₁₂, l₁₃, l₁₄, l₁₅, l₁₆, l₁₇, l₁₈, l₁₉, l₂₀, l₂₁, l₂₂, l₂₃, l₂₄, l₂₅, l₂₆, l₂₇, l₂₈, l₂₉, l₃₀, l₃₁, l₃₂, l₃₃, l₃₄, l₃₅, l₃₆, l₃₇, l₃₈, l₃₉, l₄₀)
+module _ (z : Locals) where
+  open Locals z using (κ, κ₁, κ₂, κ₃, κ₄, q, q₁, q₂, q₃, q₄, αd, γd, b, o, γ, h, b₁, o₁, γ₁, b₂, o₂, γ₂, p₃, single, count, b₄, o₄, n₄, γ₄, l₀, l₁, l₂, l₃, l₄, l₅, l₆, l₇, l₈, l₉, l₁₀, l₁₁, l₁₂, l₁₃, l₁₄, l₁₅, l₁₆, l₁₇, l₁₈, l₁₉, l₂₀, l₂₁, l₂₂, l₂₃, l₂₄, l₂₅, l₂₆, l₂₇, l₂₈, l₂₉, l₃₀, l₃₁, l₃₂, l₃₃, l₃₄, l₃₅, l₃₆, l₃₇, l₃₈, l₃₉, l₄₀)
 
   module _ {M : Type 1} (𝓤 : URA M) (H : Heap 𝓤) (A : Atoms 𝓤) (W : Given 𝓤 H A) (at-mem : Memory → SProp 𝓤) (run : Routine → Fun 𝓤) (𝓣 : Tables 𝓤 H) (begin-known : Triple 𝓤 (𝓣 .C #begin) (Begin.Callee 𝓤 H A at-mem run)) (advance-known : Triple 𝓤 (𝓣 .C #advance) (Advance.Callee 𝓤 H A at-mem run)) (settle-known : Triple 𝓤 (𝓣 .C #settle) (Settle.Callee 𝓤 H A at-mem run)) (none-known : Triple 𝓤 (𝓣 .C #none) (Plain.None 𝓤 H A W at-mem run)) (finish-known : Triple 𝓤 (𝓣 .C #ended) (Plain.Finish 𝓤 H A W at-mem run))
       (Post : Val → SProp 𝓤) (rm₀ wn₀ an₀ : List ℕ) (same : length an₀ ≡ n₄) (fits : count < 2 ^ 64) (space : Room u64 n₄) (rule : Ruled (held h rm₀ wn₀)) (runs : Runs count (length an₀)) (ends : (os : List Order) (rm wn an : List ℕ) (pt : Point) (r : Ended) (v : Val) → length an ≡ n₄ → Over (taskOf (held h rm₀ wn₀) (p₃ .now) single count an₀) (p₃ .now) single os rm wn an pt → r ≡ Plain.due 𝓤 H A W at-mem run count pt → ent 𝓤 (⋆ 𝓤 H A (‵ (fobs γ (T.the-row .coded .code (record { orders = os }))) ∷ ‵ (fbor κ (Body (mem T.the-row) b o γ)) ∷ ‵ (flft κ q) ∷ ‵ (MutRef (named 1) κ₁ Rooms .own (reft b₁ o₁ γ₁ rm) (vptr b₁ o₁ ∷ [])) ∷ ‵ (flft κ₁ q₁) ∷ ‵ (MutRef (named 2) κ₂ Places .own (reft b₂ o₂ γ₂ wn) (vptr b₂ o₂ ∷ [])) ∷ ‵ (flft κ₂ q₂) ∷ ‵ (flft κ₃ q₃) ∷ ‵ (MutSlice (named 4) κ₄ u64 .own (reft b₄ o₄ γ₄ an) (sliceVal (b₄, o₄) n₄ ∷ [])) ∷ ‵ (flft κ₄ q₄) ∷ ‵ (Ed.the-row .own r (v ∷ [])) ∷ [])) (Post v)) where
@@ -109,8 +109,8 @@ module _ (z : Spots) where
         first ! $ blocks ! $ by ! (looping z 𝓤 H A W at-mem run 𝓣 advance-known settle-known none-known finish-known Post (taskOf (held h rm₀ wn₀) (p₃ .now) single count an₀) refl fits space ends
         (record { os = h .orders; rm = rm₀; wn = wn₀; an = an₀; tx = replicate 128 0; pt = x .r; is = (subst (Is Pt.the-row (x .r)) (LL.tells Pt.the-type Pt′.the-laws (x .r) (v ∷ []) pt-is) pt-is); wide = same; going = going-starts rule (p₃ .now) single an₀ runs (replicate 128 0) (length-replicate {A = ℕ} 128 0) (x .is) }))))))
 
-module _ (z : Spots) where
-  open Spots z using (κ, κ₁, κ₂, κ₃, κ₄, q, q₁, q₂, q₃, q₄, αd, γd, b, o, γ, h, b₁, o₁, γ₁, b₂, o₂, γ₂, p₃, single, count, b₄, o₄, n₄, γ₄, l₀, l₁, l₂, l₃, l₄, l₅, l₆, l₇, l₈, l₉, l₁₀, l₁₁, l₁₂, l₁₃, l₁₄, l₁₅, l₁₆, l₁₇, l₁₈, l₁₉, l₂₀, l₂₁, l₂₂, l₂₃, l₂₄, l₂₅, l₂₆, l₂₇, l₂₈, l₂₉, l₃₀, l₃₁, l₃₂, l₃₃, l₃₄, l₃₅, l₃₆, l₃₇, l₃₈, l₃₉, l₄₀)
+module _ (z : Locals) where
+  open Locals z using (κ, κ₁, κ₂, κ₃, κ₄, q, q₁, q₂, q₃, q₄, αd, γd, b, o, γ, h, b₁, o₁, γ₁, b₂, o₂, γ₂, p₃, single, count, b₄, o₄, n₄, γ₄, l₀, l₁, l₂, l₃, l₄, l₅, l₆, l₇, l₈, l₉, l₁₀, l₁₁, l₁₂, l₁₃, l₁₄, l₁₅, l₁₆, l₁₇, l₁₈, l₁₉, l₂₀, l₂₁, l₂₂, l₂₃, l₂₄, l₂₅, l₂₆, l₂₇, l₂₈, l₂₉, l₃₀, l₃₁, l₃₂, l₃₃, l₃₄, l₃₅, l₃₆, l₃₇, l₃₈, l₃₉, l₄₀)
 
   module _ {M : Type 1} (𝓤 : URA M) (H : Heap 𝓤) (A : Atoms 𝓤) (W : Given 𝓤 H A) (at-mem : Memory → SProp 𝓤) (run : Routine → Fun 𝓤) (𝓣 : Tables 𝓤 H) (table-known : Triple 𝓤 (𝓣 .C #table) (Plain.Table 𝓤 H A W at-mem run)) (blank-known : Triple 𝓤 (𝓣 .C #blank) (Plain.Blank 𝓤 H A W at-mem run)) (begin-known : Triple 𝓤 (𝓣 .C #begin) (Begin.Callee 𝓤 H A at-mem run)) (advance-known : Triple 𝓤 (𝓣 .C #advance) (Advance.Callee 𝓤 H A at-mem run)) (settle-known : Triple 𝓤 (𝓣 .C #settle) (Settle.Callee 𝓤 H A at-mem run)) (none-known : Triple 𝓤 (𝓣 .C #none) (Plain.None 𝓤 H A W at-mem run)) (finish-known : Triple 𝓤 (𝓣 .C #ended) (Plain.Finish 𝓤 H A W at-mem run))
       (Post : Val → SProp 𝓤) (rm₀ wn₀ an₀ : List ℕ) (same : length an₀ ≡ n₄) (fits : count < 2 ^ 64) (space : Room u64 n₄) (rule : Ruled (held h rm₀ wn₀)) (runs : Runs count (length an₀)) (ends : (os : List Order) (rm wn an : List ℕ) (pt : Point) (r : Ended) (v : Val) → length an ≡ n₄ → Over (taskOf (held h rm₀ wn₀) (p₃ .now) single count an₀) (p₃ .now) single os rm wn an pt → r ≡ Plain.due 𝓤 H A W at-mem run count pt → ent 𝓤 (⋆ 𝓤 H A (‵ (fobs γ (T.the-row .coded .code (record { orders = os }))) ∷ ‵ (fbor κ (Body (mem T.the-row) b o γ)) ∷ ‵ (flft κ q) ∷ ‵ (MutRef (named 1) κ₁ Rooms .own (reft b₁ o₁ γ₁ rm) (vptr b₁ o₁ ∷ [])) ∷ ‵ (flft κ₁ q₁) ∷ ‵ (MutRef (named 2) κ₂ Places .own (reft b₂ o₂ γ₂ wn) (vptr b₂ o₂ ∷ [])) ∷ ‵ (flft κ₂ q₂) ∷ ‵ (flft κ₃ q₃) ∷ ‵ (MutSlice (named 4) κ₄ u64 .own (reft b₄ o₄ γ₄ an) (sliceVal (b₄, o₄) n₄ ∷ [])) ∷ ‵ (flft κ₄ q₄) ∷ ‵ (Ed.the-row .own r (v ∷ [])) ∷ [])) (Post v)) where

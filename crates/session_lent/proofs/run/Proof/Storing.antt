@@ -56,7 +56,7 @@ use Rattle.session.specs.Engine.{Task, Going, Waits, Came, AtHand, Settled, Ove
 use Rattle.book.proofs.tables.no_order.Symbol.{name as #none}
 use Rattle.session_lent.proofs.Orders.{machine, cell, rest, one-out, one-in, one-back}
 use Rattle.session_lent.proofs.run.Proof.Plain as Plain
-use Rattle.session_lent.proofs.run.Proof.Frame.{Spots, Γ, En, free, digits, Rooms, Places, Digits, Text, reft}
+use Rattle.session_lent.proofs.run.Proof.Frame.{Locals, Γ, En, free, digits, Rooms, Places, Digits, Text, reft}
 use Rattle.session_lent.proofs.run.Code.Mir.{turn-1}
 
 -- the code behind a sequence's first statement, and the arms of a branch
@@ -83,8 +83,8 @@ value-is r v is e = ap only (LL.tells Or.the-type Or′.the-laws r (v ∷ []) is
 none-is : (r : Order) (v : Val) → Is Or.the-row r (v ∷ []) → r ≡ noOrder → Is Or.the-row noOrder (machine noOrder ∷ [])
 none-is r v is e = subst (λ (x : Order). Is Or.the-row x (machine x ∷ [])) e (subst (Is Or.the-row r) (LL.tells Or.the-type Or′.the-laws r (v ∷ []) is) is)
 
-module _ (z : Spots) where
-  open Spots z using (κ, κ₁, κ₂, κ₃, κ₄, q, q₁, q₂, q₃, q₄, αd, γd, b, o, γ, h, b₁, o₁, γ₁, b₂, o₂, γ₂, p₃, single, count, b₄, o₄, n₄, γ₄, l₀, l₁, l₂, l₃, l₄, l₅, l₆, l₇, l₈, l₉, l₁₀, l₁₁, l₁₂, l₁₃, l₁₄, l₁₅, l₁₆, l₁₇, l₁₈, l₁₉, l₂₀, l₂₁, l₂₂, l₂₃, l₂₄, l₂₅, l₂₆, l₂₇, l₂₈, l₂₉, l₃₀, l₃₁, l₃₂, l₃₃, l₃₄, l₃₅, l₃₆, l₃₇, l₃₈, l₃₉, l₄₀)
+module _ (z : Locals) where
+  open Locals z using (κ, κ₁, κ₂, κ₃, κ₄, q, q₁, q₂, q₃, q₄, αd, γd, b, o, γ, h, b₁, o₁, γ₁, b₂, o₂, γ₂, p₃, single, count, b₄, o₄, n₄, γ₄, l₀, l₁, l₂, l₃, l₄, l₅, l₆, l₇, l₈, l₉, l₁₀, l₁₁, l₁₂, l₁₃, l₁₄, l₁₅, l₁₆, l₁₇, l₁₈, l₁₉, l₂₀, l₂₁, l₂₂, l₂₃, l₂₄, l₂₅, l₂₆, l₂₇, l₂₈, l₂₉, l₃₀, l₃₁, l₃₂, l₃₃, l₃₄, l₃₅, l₃₆, l₃₇, l₃₈, l₃₉, l₄₀)
 
   module _ {M : Type 1} (𝓤 : URA M) (H : Heap 𝓤) (A : Atoms 𝓤) (W : Given 𝓤 H A) (at-mem : Memory → SProp 𝓤) (run : Routine → Fun 𝓤) (C : Calls 𝓤 H) (Λ : Loops 𝓤 H) (fm : FmC 𝓤 H (W .laws) C) (none-known : Triple 𝓤 (C #none) (Plain.None 𝓤 H A W at-mem run)) (X : SProp 𝓤) (Left : Out → SProp 𝓤)
       (os : List Order) (rm wn an tx : List ℕ) (pt : Point) (oc : Outcome) (inside : pt .place < 256) (there : pt .place < length os) where

@@ -37,7 +37,7 @@ abbrev pub reft : ℕ → ℕ → GName → List ℕ → RefT (List ℕ)
 reft b o name xs = record { ptr = (b, o); name = name; now = xs }
 
 -- where the parameters and the locals lie, and under which names
-pub record Spots : Type 0 where
+pub record Locals : Type 0 where
   pub κ : Lft
   pub q : Share
   pub part : Share
@@ -58,8 +58,8 @@ pub record Spots : Type 0 where
   pub γ₃ : GName
   pub locals : List ℕ
 
-module _ (z : Spots) where
-  open Spots z using (κ, κ₁, κ₂, κ₃, q, q₁, q₂, q₃, part, b, o, h, p₁, p₂, b₃, o₃, n₃, γ₃, locals)
+module _ (z : Locals) where
+  open Locals z using (κ, κ₁, κ₂, κ₃, q, q₁, q₂, q₃, part, b, o, h, p₁, p₂, b₃, o₃, n₃, γ₃, locals)
 
   -- where a local lies
   abbrev pub l : ℕ → ℕ

@@ -54,7 +54,7 @@ use Rattle.session_quotes.proofs.questions.Quest as Qt
 use Rattle.session_quotes.proofs.questions.Quest.Laws as Qt′
 use Rattle.session_quotes.proofs.met.Symbol.{name as #met}
 use Rattle.session_quotes.proofs.questions.reach.Symbol.{name as #reach}
-use Rattle.session_quotes.proofs.quotes.Proof.Frame.{Spots, Γ, En, l, asking, replying, questAt, levelAt, leftAt, noLeft}
+use Rattle.session_quotes.proofs.quotes.Proof.Frame.{Locals, Γ, En, l, asking, replying, questAt, levelAt, leftAt, noLeft}
 use Rattle.session_quotes.proofs.quotes.Proof.Plain as Plain
 use Rattle.session_quotes.proofs.quotes.Proof.Reach as Reach
 use Rattle.session_quotes.proofs.quotes.Code.Mir.{turn-1}
@@ -70,8 +70,8 @@ looking = tail (tail turn-1)
 wide40 : (i : ℕ) → i < 256 → i * 40 < 2 ^ 64
 wide40 i lt = omega (arith, lt)
 
-module _ (z : Spots) (quest : Quest) (symbol : List ℕ) where
-  open Spots z using (κ, κ₁, κ₂, κ₃, q, q₁, q₂, q₃, part, b, o, h, p₁, p₂, b₃, o₃, n₃, γ₃)
+module _ (z : Locals) (quest : Quest) (symbol : List ℕ) where
+  open Locals z using (κ, κ₁, κ₂, κ₃, q, q₁, q₂, q₃, part, b, o, h, p₁, p₂, b₃, o₃, n₃, γ₃)
 
   -- where the loop is between two turns
   pub record State : Type 0 where

@@ -37,7 +37,7 @@ use Rattle.session_quotes.specs.declared.questions.Quest.{Quest}
 use Rattle.session_quotes.proofs.questions.Quest as Qt
 use Rattle.session_quotes.proofs.questions.Quest.Laws as Qt′
 use Rattle.session_quotes.proofs.questions.reach as rea
-use Rattle.session_quotes.proofs.quotes.Proof.Frame.{Spots, asking, replying, reft}
+use Rattle.session_quotes.proofs.quotes.Proof.Frame.{Locals, asking, replying, reft}
 
 -- the lifetime and the name of the loan
 pub record Loan : Type 0 where
@@ -48,8 +48,8 @@ module _ {M : Type 1} (𝓤 : URA M) (H : Heap 𝓤) (A : Atoms 𝓤) (at-mem : 
   abbrev pub Callee : Contract 𝓤
   Callee = tripleOf 𝓤 H A rea.signature (rea.spec 𝓤 H A at-mem run)
 
-module _ (z : Spots) (rs : List ℕ) (quest : Quest) (level : Level) {M : Type 1} (𝓤 : URA M) (H : Heap 𝓤) (A : Atoms 𝓤) (W : Given 𝓤 H A) (at-mem : Memory → SProp 𝓤) (run : Routine → Fun 𝓤) where
-  open Spots z using (κ₂, κ₃, q₂, q₃, p₂, b₃, o₃, n₃, γ₃)
+module _ (z : Locals) (rs : List ℕ) (quest : Quest) (level : Level) {M : Type 1} (𝓤 : URA M) (H : Heap 𝓤) (A : Atoms 𝓤) (W : Given 𝓤 H A) (at-mem : Memory → SProp 𝓤) (run : Routine → Fun 𝓤) where
+  open Locals z using (κ₂, κ₃, q₂, q₃, p₂, b₃, o₃, n₃, γ₃)
 
   abbrev κs : Loan → Lft × (Lft × Unit {0})
   κs g = (κ₂, (g .α ∷ [], tt))

@@ -53,7 +53,7 @@ use Rattle.session_quotes.proofs.questions.Quest as Qt
 use Rattle.session_quotes.proofs.questions.Quest.Laws as Qt′
 use Rattle.session_quotes.proofs.met.Symbol.{name as #met}
 use Rattle.session_quotes.proofs.questions.reach.Symbol.{name as #reach}
-use Rattle.session_quotes.proofs.quotes.Proof.Frame.{Spots, Γ, En, l, asking, replying, questAt, levelAt, leftAt, noLeft}
+use Rattle.session_quotes.proofs.quotes.Proof.Frame.{Locals, Γ, En, l, asking, replying, questAt, levelAt, leftAt, noLeft}
 use Rattle.session_quotes.proofs.quotes.Proof.Plain as Plain
 use Rattle.session_quotes.proofs.quotes.Proof.Reach as Reach
 use base.Fml.{fdies, fshr-bor}
@@ -72,8 +72,8 @@ use Rattle.session_quotes.proofs.quotes.Proof.Frame.{housing, noLevel, 
 use Rattle.session_quotes.proofs.quotes.Proof.Asking.{asking-all, Same}
 use Rattle.session_quotes.proofs.quotes.Code.Mir.{t-1}
 
-module _ (z : Spots) (rs₀ : List ℕ) where
-  open Spots z using (κ, κ₁, κ₂, κ₃, q, q₁, q₂, q₃, part, b, o, h, p₁, p₂, b₃, o₃, n₃, γ₃, locals)
+module _ (z : Locals) (rs₀ : List ℕ) where
+  open Locals z using (κ, κ₁, κ₂, κ₃, q, q₁, q₂, q₃, part, b, o, h, p₁, p₂, b₃, o₃, n₃, γ₃, locals)
 
   -- what is owned, with the room, before the first statement
   abbrev pub Γ₀ : {M : Type 1} (𝓤 : URA M) (H : Heap 𝓤) (A : Atoms 𝓤) (W : Given 𝓤 H A) → List (Item 𝓤)
@@ -122,8 +122,8 @@ module _ (z : Spots) (rs₀ : List ℕ) where
         (record { rs = rs₀; quest = r; level = lv; quest-is = subst (Is Qt.the-row r) (LL.tells Qt.the-type Qt′.the-laws r (v ∷ []) quest-is) quest-is; level-is = subst (Is Lv.the-row lv) (LL.tells Lv.the-type Lv′.the-laws lv (v′ ∷ []) level-is) level-is; wide = wide; same = begun r e; reaching = reaching r lv e }))))))))))
 
 -- the parameters are stored, and the session's borrow is opened
-module _ (z : Spots) (rs₀ : List ℕ) where
-  open Spots z using (κ, κ₁, κ₂, κ₃, q, q₁, q₂, q₃, b, o, h, p₁, p₂, b₃, o₃, n₃, γ₃, locals)
+module _ (z : Locals) (rs₀ : List ℕ) where
+  open Locals z using (κ, κ₁, κ₂, κ₃, q, q₁, q₂, q₃, b, o, h, p₁, p₂, b₃, o₃, n₃, γ₃, locals)
 
   module _ {M : Type 1} (𝓤 : URA M) (H : Heap 𝓤) (A : Atoms 𝓤) (W : Given 𝓤 H A) (at-mem : Memory → SProp 𝓤) (run : Routine → Fun 𝓤) (𝓣 : Runs 𝓤 H) (start-known : Triple 𝓤 (𝓣 .C #start) (Plain.Start 𝓤 H A W at-mem run))
       (none-known : Triple 𝓤 (𝓣 .C #none) (Plain.None 𝓤 H A W at-mem run)) (met-known : Triple 𝓤 (𝓣 .C #met) (Plain.Met 𝓤 H A W at-mem run)) (reach-known : Triple 𝓤 (𝓣 .C #reach) (Reach.Callee 𝓤 H A at-mem run))

@@ -1,6 +1,6 @@
 -- `window::missing_is` meets its contract: by the size at the number's place.
 -- Assumes nothing.
-use Rattle.window.proofs.Firsts.{is-missing, is-there}
+use Rattle.window.proofs.FirstNumber.{is-missing, is-there}
 use borrow.Author.Needs.{needs}
 use Rattle.window.proofs.missing.missing_is.Statement.{statement}
 use Rattle.window.proofs.missing.missing_is.Tie as tie

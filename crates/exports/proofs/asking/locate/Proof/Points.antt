@@ -5,32 +5,32 @@ use Rattle.exports.proofs.asking.locate.Tie as tie
 abbrev pub entry-from-found-arg : tie.After-found-arg → tie.Start
 entry-from-found-arg c = c .before .before .before .before .before .before
 
-abbrev pub value-from-no-spot : tie.After-no-spot → tie.After-value
-value-from-no-spot c = c .before .before .before
+abbrev pub value-from-no-place : tie.After-no-place → tie.After-value
+value-from-no-place c = c .before .before .before
 
 abbrev pub value-from-known-told2 : tie.After-known-told2 → tie.After-value
 value-from-known-told2 c = c .before .before .before .before .before .before .before .before
 
-abbrev pub value-from-no-spot2 : tie.After-no-spot2 → tie.After-value
-value-from-no-spot2 c = c .before .before .before .before .before .before .before .before
+abbrev pub value-from-no-place2 : tie.After-no-place2 → tie.After-value
+value-from-no-place2 c = c .before .before .before .before .before .before .before .before
 
 abbrev pub key-from-known-told2 : tie.After-known-told2 → tie.After-key
 key-from-known-told2 c = c .before .before .before .before .before .before
 
-abbrev pub key-from-no-spot2 : tie.After-no-spot2 → tie.After-key
-key-from-no-spot2 c = c .before .before .before .before .before .before
+abbrev pub key-from-no-place2 : tie.After-no-place2 → tie.After-key
+key-from-no-place2 c = c .before .before .before .before .before .before
 
-abbrev pub enum-told-from-no-spot : tie.After-no-spot → tie.After-enum-told
-enum-told-from-no-spot c = c .before
+abbrev pub enum-told-from-no-place : tie.After-no-place → tie.After-enum-told
+enum-told-from-no-place c = c .before
 
 abbrev pub found-from-known-told2 : tie.After-known-told2 → tie.After-found
 found-from-known-told2 c = c .before .before .before
 
-abbrev pub found-from-no-spot2 : tie.After-no-spot2 → tie.After-found
-found-from-no-spot2 c = c .before .before .before
+abbrev pub found-from-no-place2 : tie.After-no-place2 → tie.After-found
+found-from-no-place2 c = c .before .before .before
 
 abbrev pub place-from-known-told2 : tie.After-known-told2 → tie.After-place
 place-from-known-told2 c = c .before
 
-abbrev pub enum-told2-from-no-spot2 : tie.After-no-spot2 → tie.After-enum-told2
-enum-told2-from-no-spot2 c = c .before
+abbrev pub enum-told2-from-no-place2 : tie.After-no-place2 → tie.After-enum-told2
+enum-told2-from-no-place2 c = c .before

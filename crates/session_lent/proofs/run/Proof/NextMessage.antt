@@ -57,7 +57,7 @@ use Rattle.session.specs.Engine.{Task, Going, Waits, Came, AtHand, Settled, Ove
 use Rattle.book.proofs.tables.no_order.Symbol.{name as #none}
 use Rattle.session_lent.proofs.Orders.{machine, cell, rest, one-out, one-in, one-back}
 use Rattle.session_lent.proofs.run.Proof.Plain as Plain
-use Rattle.session_lent.proofs.run.Proof.Frame.{Spots, Γ, En, free, digits, Rooms, Places, Digits, Text, reft}
+use Rattle.session_lent.proofs.run.Proof.Frame.{Locals, Γ, En, free, digits, Rooms, Places, Digits, Text, reft}
 use Rattle.session_lent.proofs.run.Proof.Storing.{tail}
 use Rattle.session_lent.proofs.run.Proof.Settle as Settle
 use Rattle.session_lent.proofs.run.Proof.Advance as Advance
@@ -66,8 +66,8 @@ use Rattle.session.proofs.advancing.advance.Symbol.{name as #advance}
 use Rattle.session_lent.proofs.settle.Symbol.{name as #settle}
 use Rattle.session_lent.proofs.run.Code.Mir.{turn-1}
 
-module _ (z : Spots) where
-  open Spots z using (κ, κ₁, κ₂, κ₃, κ₄, q, q₁, q₂, q₃, q₄, αd, γd, b, o, γ, h, b₁, o₁, γ₁, b₂, o₂, γ₂, p₃, single, count, b₄, o₄, n₄, γ₄, l₀, l₁, l₂, l₃, l₄, l₅, l₆, l₇, l₈, l₉, l₁₀, l₁₁, l₁₂, l₁₃, l₁₄, l₁₅, l₁₆, l₁₇, l₁₈, l₁₉, l₂₀, l₂₁, l₂₂, l₂₃, l₂₄, l₂₅, l₂₆, l₂₇, l₂₈, l₂₉, l₃₀, l₃₁, l₃₂, l₃₃, l₃₄, l₃₅, l₃₆, l₃₇, l₃₈, l₃₉, l₄₀)
+module _ (z : Locals) where
+  open Locals z using (κ, κ₁, κ₂, κ₃, κ₄, q, q₁, q₂, q₃, q₄, αd, γd, b, o, γ, h, b₁, o₁, γ₁, b₂, o₂, γ₂, p₃, single, count, b₄, o₄, n₄, γ₄, l₀, l₁, l₂, l₃, l₄, l₅, l₆, l₇, l₈, l₉, l₁₀, l₁₁, l₁₂, l₁₃, l₁₄, l₁₅, l₁₆, l₁₇, l₁₈, l₁₉, l₂₀, l₂₁, l₂₂, l₂₃, l₂₄, l₂₅, l₂₆, l₂₇, l₂₈, l₂₉, l₃₀, l₃₁, l₃₂, l₃₃, l₃₄, l₃₅, l₃₆, l₃₇, l₃₈, l₃₉, l₄₀)
 
   module _ {M : Type 1} (𝓤 : URA M) (H : Heap 𝓤) (A : Atoms 𝓤) (W : Given 𝓤 H A) (at-mem : Memory → SProp 𝓤) (run : Routine → Fun 𝓤) (C : Calls 𝓤 H) (Λ : Loops 𝓤 H) (fm : FmC 𝓤 H (W .laws) C) (advance-known : Triple 𝓤 (C #advance) (Advance.Callee 𝓤 H A at-mem run)) (X : SProp 𝓤) (Left : Out → SProp 𝓤)
       (task : Task) (space : Room u64 n₄) (os : List Order) (rm wn an tx : List ℕ) (pt : Point) (is : Is Pt.the-row pt (LL.vals Pt.the-type Pt′.the-laws pt)) (wide : length an ≡ n₄) (many : length os ≡ 256) (going : Going task (p₃ .now) single os rm wn an tx pt)

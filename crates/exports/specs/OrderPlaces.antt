@@ -13,16 +13,16 @@ use Rattle.book.specs.declared.asking.Reply.the-variants.{Known}
 use Rattle.book.specs.declared.tables.Order.{Order}
 use Rattle.session.specs.Meaning.{tablesIn}
 use Rattle.session.specs.declared.state.Session.{Session}
-use Rattle.exports.specs.declared.asking.Spot.{Spot}
+use Rattle.exports.specs.declared.asking.OrderPlace.{OrderPlace}
 
-abbrev pub noSpot : ℕ → Spot
-noSpot number = record { refusal = number; place = 0 }
+abbrev pub noPlace : ℕ → OrderPlace
+noPlace number = record { refusal = number; place = 0 }
 
 -- the order there, or the refusal
-unfoldable pub replyAt : Spot → Order → OrderReply
-replyAt spot there = cond (eqb (spot .refusal) 0) (record { reply = Known; order = there }) (noOrderFor (spot .refusal))
+unfoldable pub replyAt : OrderPlace → Order → OrderReply
+replyAt located there = cond (eqb (located .refusal) 0) (record { reply = Known; order = there }) (noOrderFor (located .refusal))
 
 -- the order at the place answers the question; the place is one of the table's also where there is none
-pub record Spotted (session : Session) (room id : List ℕ) (spot : Spot) : Type 0 where
-  pub place : spot .place < 256
-  pub answer : replyAt spot (getD (session .orders) (spot .place) blank) ≡ orderAsked (tablesIn session room) id
+pub record Located (session : Session) (room id : List ℕ) (located : OrderPlace) : Type 0 where
+  pub place : located .place < 256
+  pub answer : replyAt located (getD (session .orders) (located .place) blank) ≡ orderAsked (tablesIn session room) id

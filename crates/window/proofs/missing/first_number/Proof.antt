@@ -5,9 +5,9 @@ use mathlib.Core.Path.{_≡_, refl, ap, _∙_, sym}
 use Prim.Native.Nat.{ℕ, _≤_, _<_, _+_, _-_}
 use native.Mathlib.Omega.{arith}
 use Rattle.window.specs.Runs.{firstFrom, missingIs}
-use Rattle.window.proofs.Firsts.{first-here, first-on, first-none, is-first}
-use Rattle.window.proofs.missing.first.Statement.{statement}
-use Rattle.window.proofs.missing.first.Tie as tie
+use Rattle.window.proofs.FirstNumber.{first-here, first-on, first-none, is-first}
+use Rattle.window.proofs.missing.first_number.Statement.{statement}
+use Rattle.window.proofs.missing.first_number.Tie as tie
 
 abbrev Inv-loop : tie.InvT-loop
 Inv-loop window wanted from limit k₀ k = (k ≤ limit) × (firstFrom (missingIs window wanted) from (limit - from) ≡ firstFrom (missingIs window wanted) k (limit - k))
@@ -36,8 +36,8 @@ loop-again c = (omega arith, c .before .before .before .loop .inv .1 ∙ first-o
 returns-2 : tie.Need-returns-2 Inv-loop μ-loop
 returns-2 c = is-first (search needs) (sym (c .before .loop .inv .1 ∙ first-none _ _ _ (omega arith)))
 
-pub first-spec : {M : Type 1} → statement M
-first-spec =
+pub first-number-spec : {M : Type 1} → statement M
+first-number-spec =
     tie.close
     (tie.spec
     Inv-loop

@@ -8,37 +8,37 @@ use lib.Dec.{eqb}
 use lib.ListN.{length, take}
 use Rattle.wire.specs.Number.{num, part, splice}
 use Rattle.window.specs.Window.{sizeAt, startOf, zeros}
-use Rattle.session_message.specs.declared.Source.{Source}
+use Rattle.session_message.specs.declared.PacketRest.{PacketRest}
 
 -- none is left in the packet: the message lies in the window
-abbrev pub inWindow : Source → Bool
+abbrev pub inWindow : PacketRest → Bool
 inWindow x = eqb (x .left) 0
 
 -- its size, 0 where there is none
-unfoldable pub sizeIn : List ℕ → List ℕ → Source → ℕ → ℕ
+unfoldable pub sizeIn : List ℕ → List ℕ → PacketRest → ℕ → ℕ
 sizeIn window s x place = cond (inWindow x) (sizeAt window place) (num (part s (x .from) 2))
 
 -- a place of the window is copied out and made free; the packet is left alone
-unfoldable pub textAfter : List ℕ → List ℕ → Source → ℕ → List ℕ
+unfoldable pub textAfter : List ℕ → List ℕ → PacketRest → ℕ → List ℕ
 textAfter window text x place = cond (inWindow x) (part window (startOf place) 128) text
 
-unfoldable pub windowAfter : List ℕ → Source → ℕ → List ℕ
+unfoldable pub windowAfter : List ℕ → PacketRest → ℕ → List ℕ
 windowAfter window x place = cond (inWindow x) (splice window (startOf place) (zeros 128)) window
 
 -- the message: what was copied out, or what the packet has
-unfoldable pub messageAt : List ℕ → List ℕ → Source → ℕ → List ℕ
+unfoldable pub messageAt : List ℕ → List ℕ → PacketRest → ℕ → List ℕ
 messageAt text s x size = cond (inWindow x) (take size text) (part s (x .from) size)
 
 -- past a message
-unfoldable pub onwardOf : Source → ℕ → Source
+unfoldable pub onwardOf : PacketRest → ℕ → PacketRest
 onwardOf x size = cond (inWindow x) x (record { left = x .left - 1; from = x .from + size })
 
 -- what is read lies in the bytes
-pub record Begins (s : List ℕ) (x : Source) : Type 0 where
+pub record Begins (s : List ℕ) (x : PacketRest) : Type 0 where
   pub within : (x .left ≡ 0 → ⊥) → x .from + 2 ≤ length s
 
-pub record Goes (x : Source) (size : ℕ) : Type 0 where
+pub record Goes (x : PacketRest) (size : ℕ) : Type 0 where
   pub within : (x .left ≡ 0 → ⊥) → x .from + size ≤ 18446744073709551615
 
-pub record Lies (s : List ℕ) (x : Source) (size : ℕ) : Type 0 where
+pub record Lies (s : List ℕ) (x : PacketRest) (size : ℕ) : Type 0 where
   pub within : (x .left ≡ 0 → ⊥) → x .from + size ≤ length s

@@ -1,10 +1,10 @@
--- `desk::command::of` meets its contract, a count of words at a time.
+-- `desk::command::command_of` meets its contract, a count of words at a time.
 -- Assumes nothing.
 use Rattle.desk.proofs.Commands.{of-count, of-no-count}
 use Rattle.desk.specs.Commands.{commandOf}
 use borrow.Author.Needs.{needs}
-use Rattle.desk.proofs.command.of.Statement.{statement}
-use Rattle.desk.proofs.command.of.Tie as tie
+use Rattle.desk.proofs.command.command_of.Statement.{statement}
+use Rattle.desk.proofs.command.command_of.Tie as tie
 
 returns : tie.Need-returns
 unfolding commandOf
@@ -12,7 +12,7 @@ returns c = of-count 1 (c .before .before .before .count .ensures .is) (c .befor
 
 returns-2 : tie.Need-returns-2
 unfolding commandOf
-returns-2 c = of-count 2 (c .before .before .count .ensures .is) (c .before .match .keys2) (c .before .before .before .word .ensures) (c .of-one .ensures)
+returns-2 c = of-count 2 (c .before .before .count .ensures .is) (c .before .match .keys2) (c .before .before .before .word .ensures) (c .one-command .ensures)
 
 returns-3 : tie.Need-returns-3
 unfolding commandOf
@@ -31,8 +31,8 @@ returns-6 c =
     let r = c .match .rest in
     of-no-count _ (c .before .count .ensures .is) (r .0 .0 .0 .0 .1) (r .0 .0 .0 .1) (r .0 .0 .1) (r .0 .1) (r .1)
 
-pub of-spec : {M : Type 1} → statement M
-of-spec =
+pub command-of-spec : {M : Type 1} → statement M
+command-of-spec =
     tie.close
     (tie.spec
     (λ c κs. search needs)
