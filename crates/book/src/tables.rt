@@ -32,10 +32,10 @@ pub struct Faults {
     pub reason: u64,
 }
 
-// How many orders can be live, and how many insides held.
-pub const ORDERS: usize = 256;
+// How many orders can be live, and how many insides held: as many as the indexes have places.
+pub const ORDERS: usize = book_index::PLACES;
 
-pub const INSIDES: usize = 64;
+pub const INSIDES: usize = book_index::PAIRS;
 
 // Parts: what a place holds that is not used.
 pub fn no_order() -> Order

@@ -8,6 +8,7 @@ use book_room::room::NEXT;
 use book_room::room::Room;
 use session_message::PacketRest;
 use window::places::NUMBERS;
+use window::places::PLACE;
 use window::places::Window;
 use window_burst::close;
 use window_burst::done;
@@ -98,7 +99,7 @@ pub fn advance(
     packets: &[u8],
     single: bool,
     digits: &[u8; 256],
-    text: &mut [u8; 128],
+    text: &mut [u8; PLACE],
     answers: &mut [u64],
     point: Point,
 ) -> Point

@@ -5,6 +5,7 @@ use book_deciding::reading::order_of;
 use book_room::changing::Act;
 use book_room::changing::change;
 use book_room::room::Room;
+use window::places::PLACE;
 ghost use mathlib.Core.Bool.{Bool, false};
 ghost use mathlib.Core.Path.{_≡_};
 ghost use mathlib.Core.List.{List};
@@ -30,7 +31,7 @@ fn stores(order: Order) -> Outcome
 
 pub fn settle<'a>(
     room: &mut Room,
-    text: &'a [u8; 128],
+    text: &'a [u8; PLACE],
     packets: &'a [u8],
     point: Point,
     there: Order,

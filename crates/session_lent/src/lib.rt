@@ -9,6 +9,7 @@ use session::advancing::advance;
 use session::running::ended;
 use session::settling::Outcome;
 use session::state::Session;
+use window::places::PLACE;
 use window::places::Window;
 ghost use mathlib.Core.Path.{_≡_};
 ghost use mathlib.Core.List.{List};
@@ -24,10 +25,10 @@ ghost use Rattle.session.specs.Bursts.{rowsOf, Runs};
 ghost use Rattle.window_taking.specs.Turns.{endFrom, packetsFrom};
 
 // The text of a message that waited, before the first.
-fn blank() -> [u8; 128]
+fn blank() -> [u8; PLACE]
     ensures { λ r. ⌜ r ≡ replicate 128 0 ⌝ }
 {
-    [0u8; 128]
+    [0u8; PLACE]
 }
 
 // Before the first packet.
@@ -41,7 +42,7 @@ fn begin(room: &mut Room, count: usize) -> Point
 // What the message at hand does.
 fn settle(
     room: &mut Room,
-    text: &mut [u8; 128],
+    text: &mut [u8; PLACE],
     packets: &[u8],
     point: Point,
     there: Order,
