@@ -1,8 +1,8 @@
 // Parts: for the crates above, which copy the digit table once and lend it for many ids.
-use crate::id::IdValue;
+use crate::digits;
 ghost use mathlib.Core.Path.{_≡_};
 ghost use Prim.Native.Nat.{_≤_};
-ghost use Rattle.fields.specs.Id.{digitOf, digitTable, fourOf, numberOf, isValue, idAnswer, Begun};
+ghost use Rattle.fields.specs.Id.{digitOf, digitTable, fourOf, numberOf, isValue, Begun};
 
 // One above the largest value of four characters: no four have it.
 const BAD: u64 = 1_679_616;
@@ -17,15 +17,12 @@ pub fn is_value(number: u64) -> bool
     number != NONE
 }
 
-pub fn value_with(digits: &[u8; 256], id: [u8; 14]) -> IdValue
-    requires { ⌜ now digits ≡ digitTable ⌝ }
-    ensures { λ r. ⌜ r ≡ idAnswer id ⌝ }
+// An id's value, or NONE where it breaks its rule.
+pub fn number(id: [u8; 14]) -> u64
+    ensures { λ r. ⌜ r ≡ numberOf id ⌝ }
 {
-    let number = number_from(digits, &id, 12, 0);
-    if number == NONE {
-        return IdValue::Refused(12);
-    }
-    IdValue::Value(number)
+    let digits = digits::table();
+    number_from(&digits, &id, 12, 0)
 }
 
 // The id's value, or NONE, where all but the last `left` of its 12 characters are read and give
