@@ -1,28 +1,23 @@
-// Parts: what a whole message names and makes. `digits` is the digit table, copied once and lent.
+// Parts: what a whole message names and makes.
 use book::tables::Inside;
 use book::tables::Order;
-use fields::id::IdValue;
-use fields::parts::NONE;
-use fields::parts::value_with;
+use fields::parts::number;
 ghost use mathlib.Core.Path.{_≡_};
 ghost use Prim.Native.Nat.{_≤_};
 ghost use lib.ListN.{length};
 ghost use Rattle.wire.specs.Number.{part};
-ghost use Rattle.fields.specs.Id.{digitTable, numberOf};
+ghost use Rattle.fields.specs.Id.{numberOf};
 ghost use Rattle.message.specs.Row.{fieldsOf};
 ghost use Rattle.book.specs.Applying.{Naming, orderOf, insideOf};
 
 // The value of the id of 21 to 25, or NONE where it breaks the id's rule.
-pub fn key_at(digits: &[u8; 256], bytes: &[u8]) -> u64
-    requires { ⌜ (now digits ≡ digitTable) × (21 ≤ length (now bytes)) ⌝ }
+pub fn key_at(bytes: &[u8]) -> u64
+    requires { ⌜ 21 ≤ length (now bytes) ⌝ }
     ensures { λ r. ⌜ r ≡ numberOf (part (now (bytes .entry)) 7 14) ⌝ }
 {
     let fields = message_layouts::named(bytes);
     let id = fields.id;
-    match value_with(digits, id) {
-        IdValue::Value(key) => key,
-        IdValue::Refused(_) => NONE,
-    }
+    number(id)
 }
 
 // The order that an Add makes.
