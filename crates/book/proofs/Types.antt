@@ -35,19 +35,13 @@ no e = let z : _≡_ {A = ℕ} 0 1 = ap (λ (b : Bool). cond b 1 0) e in absurd 
 pub valued : (id : List ℕ) → goodId id ≡ true → numberOf id ≢ noValue
 valued id good e = no (ap not (sym (eq-eqb _ _ e)) ∙ value-good id refl ∙ good)
 
-answer-cases : (id : List ℕ) (b : Bool) {v n : ℕ}
-    → (cond b (Value (valueOf 12 id)) (Refused 12) ≡ Value v → v ≡ cond b (valueOf 12 id) noValue)
-    × (cond b (Value (valueOf 12 id)) (Refused 12) ≡ Refused n → noValue ≡ cond b (valueOf 12 id) noValue)
-answer-cases id true = ((λ e. cc), λ e. let z : _≡_ {A = ℕ} 0 1 = cc in absurd (omega arith))
-answer-cases id false = ((λ e. let z : _≡_ {A = ℕ} 0 1 = cc in absurd (omega arith)), λ e. refl)
+answer-cases : (id : List ℕ) (b : Bool) {v : ℕ} → cond b (Value (valueOf 12 id)) (Refused 12) ≡ Value v → v ≡ cond b (valueOf 12 id) noValue
+answer-cases id true e = cc
+answer-cases id false e = let z : _≡_ {A = ℕ} 0 1 = cc in absurd (omega arith)
 
 pub answer-value : (id : List ℕ) {answer : IdValue} {v : ℕ} → answer ≡ idAnswer id → answer ≡ Value v → v ≡ numberOf id
 unfolding idAnswer numberOf
-answer-value id is e = answer-cases id (goodId id) {n = 0} .0 (sym is ∙ e)
-
-pub answer-refused : (id : List ℕ) {answer : IdValue} {n : ℕ} → answer ≡ idAnswer id → answer ≡ Refused n → noValue ≡ numberOf id
-unfolding idAnswer numberOf
-answer-refused id is e = answer-cases id (goodId id) {v = 0} .1 (sym is ∙ e)
+answer-value id is e = answer-cases id (goodId id) (sym is ∙ e)
 
 -- ---- the types that name an order
 

@@ -11,7 +11,6 @@ use book_deciding::reading::key_at;
 ghost use mathlib.Core.Path.{_≡_};
 ghost use Prim.Native.Nat.{ℕ, _+_};
 ghost use lib.ListN.{set};
-ghost use Rattle.fields.specs.Id.{digitTable};
 ghost use Rattle.message.specs.Layouts.{typeIn};
 ghost use Rattle.book.specs.Tables.{Book, holdingOrders};
 ghost use Rattle.book_room.specs.Room.{Free, Houses, roomOf};
@@ -33,12 +32,12 @@ fn enter(room: &mut [u64], live: usize, key: u64)
     book_index::put(&mut room[INDEX..SYMBOLS], live, key);
 }
 
-pub fn add(room: &mut [u64], digits: &[u8; 256], bytes: &[u8], number: u64) -> Put
-    requires { ⌜ (now digits ≡ digitTable) × (typeIn (now bytes) ≡ 21) ⌝ }
+pub fn add(room: &mut [u64], bytes: &[u8], number: u64) -> Put
+    requires { ⌜ typeIn (now bytes) ≡ 21 ⌝ }
     requires { ⌜ ((next end : ℕ) × (b : Book) × Houses (now room) next end b number (now bytes)) ⌝ }
     ensures { λ r. ⌜ ((next end : ℕ) (b : Book) → Houses (now (room .entry)) next end b number (now (bytes .entry)) → Added (now (room .exit)) next end b number (now (bytes .entry)) r) ⌝ }
 {
-    let key = key_at(digits, bytes);
+    let key = key_at(bytes);
     let order = found(room, key);
     let live = room[LIVE] as usize;
     match book_deciding::add(bytes, key, order, live) {

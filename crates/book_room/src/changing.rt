@@ -10,7 +10,6 @@ use book::lookup::Found;
 use book_deciding::reading::key_at;
 ghost use mathlib.Core.Path.{_≡_};
 ghost use Prim.Native.Nat.{ℕ};
-ghost use Rattle.fields.specs.Id.{digitTable};
 ghost use Rattle.message.specs.Layouts.{typeIn};
 ghost use Rattle.message.specs.Whole.{Whole};
 ghost use Rattle.book.specs.Tables.{Book};
@@ -33,13 +32,13 @@ pub enum Act {
     Nothing,
 }
 
-pub fn named(room: &[u64], digits: &[u8; 256], bytes: &[u8]) -> Name
-    requires { ⌜ (now digits ≡ digitTable) × (names (typeIn (now bytes)) ≡ true) ⌝ }
+pub fn named(room: &[u64], bytes: &[u8]) -> Name
+    requires { ⌜ names (typeIn (now bytes)) ≡ true ⌝ }
     requires { ⌜ ((next end : ℕ) × (b : Book) × Lies (now room) next end b) ⌝ }
     requires { ⌜ Whole (now bytes) ⌝ }
     ensures { λ r. ⌜ ((next end : ℕ) (b : Book) → Lies (now (room .entry)) next end b → r ≡ namedIn b (now (bytes .entry))) ⌝ }
 {
-    let key = key_at(digits, bytes);
+    let key = key_at(bytes);
     let order = found(room, key);
     Name { key, order }
 }

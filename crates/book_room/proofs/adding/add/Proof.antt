@@ -23,7 +23,7 @@ use Rattle.book_room.proofs.adding.add.Tie as tie
 decided : (c : tie.After-add) {next end : ℕ} {b : Book} → Houses (to.entry-from-add c .args .room .now) next end b (to.entry-from-add c .args .number) (to.entry-from-add c .args .bytes .now)
     → Decided b (to.entry-from-add c .args .bytes .now) (to.key-at-from-add c .key-at .result) (topicOf (messageIn (to.entry-from-add c .args .bytes .now))) (c .add .result)
 decided c {next} {end} {b} h =
-    decided-add (to.entry-from-add c .args .bytes .now) (h .ready .kept) (to.entry-from-add c .pre .0 .1) (h .ready .whole)
+    decided-add (to.entry-from-add c .args .bytes .now) (h .ready .kept) (to.entry-from-add c .pre .0) (h .ready .whole)
     (to.key-at-from-add c .key-at .ensures) (to.found-from-add c .found .ensures next end b (lies h)) (live-at (filled (lies h))) (c .add .ensures)
 
 free : (c : tie.At-match-keys2) {next end : ℕ} {b : Book} (h : Houses (to.entry-from-match-keys2 c .args .room .now) next end b (to.entry-from-match-keys2 c .args .number) (to.entry-from-match-keys2 c .args .bytes .now))
@@ -31,13 +31,13 @@ free : (c : tie.At-match-keys2) {next end : ℕ} {b : Book} (h : Houses (to.entr
 free c h =
     let d = decided (to.add-from-match-keys2 c) h in
     let at = live-at (filled (lies h)) in
-    record { filled = filled (lies h); at = at; few = omega (arith, put-few d (put-left d (to.entry-from-match-keys2 c .pre .0 .1) (c .match .keys2))) }
+    record { filled = filled (lies h); at = at; few = omega (arith, put-few d (put-left d (to.entry-from-match-keys2 c .pre .0) (c .match .keys2))) }
 
 key-at-requires : tie.Need-key-at-requires
 key-at-requires c κs =
     let pre = to.entry-from-shared-slice-known c .pre in
     let s = to.entry-from-shared-slice-known c .args .bytes .now in
-    (pre .0 .0, omega (arith, add-naming s {key = numberOf (part s 7 14)} (pre .0 .1) (pre .1 .3 .ready .whole) refl .room))
+    omega (arith, add-naming s {key = numberOf (part s 7 14)} (pre .0) (pre .1 .3 .ready .whole) refl .room)
 
 found-requires : tie.Need-found-requires
 found-requires c κs = let pre = to.entry-from-found-arg c .pre .1 in (pre .0, pre .1, pre .2, lies (pre .3))
@@ -48,7 +48,7 @@ slice-read-live c = omega (arith, long (filled (lies (to.entry-from-slice-known2
 add-requires : tie.Need-add-requires
 add-requires c κs =
     let pre = to.entry-from-slice-known2 c .pre in
-    add-naming (to.entry-from-slice-known2 c .args .bytes .now) (pre .0 .1) (pre .1 .3 .ready .whole) (to.key-at-from-slice-known2 c .key-at .ensures)
+    add-naming (to.entry-from-slice-known2 c .args .bytes .now) (pre .0) (pre .1 .3 .ready .whole) (to.key-at-from-slice-known2 c .key-at .ensures)
 
 mark-requires : tie.Need-mark-requires
 mark-requires c κs = let pre = to.entry-from-mark-arg c .pre .1 in (pre .0, pre .1, pre .2, counts (pre .3))
@@ -68,7 +68,7 @@ returns-2 c next end b h =
     let d = decided (to.add-from-slice-known4 c) h in
     let m = to.match-keys2-from-slice-known4 c in
     added-put next end (to.entry-from-slice-known4 c .args .number) d
-    (put-left d (to.entry-from-slice-known4 c .pre .0 .1) (m .match .keys2)) (free m h .at) (free m h .few)
+    (put-left d (to.entry-from-slice-known4 c .pre .0) (m .match .keys2)) (free m h .at) (free m h .few)
     (to.enter-from-slice-known4 c .enter .ensures next end b (free m h))
 
 pub add-spec : {M : Type 1} → statement M

@@ -14,11 +14,11 @@ use Rattle.book_room.proofs.changing.named.Tie as tie
 key-at-requires : tie.Need-key-at-requires
 key-at-requires c κs =
     let pre = to.entry-from-shared-slice-known2 c .pre in
-    (pre .0 .0, names-room (to.entry-from-shared-slice-known2 c .args .bytes .now) (pre .0 .1) (pre .1 .1))
+    names-room (to.entry-from-shared-slice-known2 c .args .bytes .now) (pre .0) (pre .1 .1)
 
 returns : tie.Need-returns
 returns c next end b lies =
-    let key = to.key-at-from-found c .key-at .ensures ∙ names-id (to.entry-from-found c .args .bytes .now) (to.entry-from-found c .pre .0 .1) in
+    let key = to.key-at-from-found c .key-at .ensures ∙ names-id (to.entry-from-found c .args .bytes .now) (to.entry-from-found c .pre .0) in
     let order = c .found .ensures next end b lies ∙ ap (λ (k : ℕ). keyAt k (take (b .live) (b .keys))) key in
     λ i. record { key = key i; order = order i }
 
