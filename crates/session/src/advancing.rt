@@ -17,7 +17,6 @@ use window_burst::start;
 use window_taking::burst::Turn;
 ghost use mathlib.Core.Path.{_≡_};
 ghost use mathlib.Core.List.{List};
-ghost use Rattle.fields.specs.Id.{digitTable};
 ghost use Rattle.book.specs.declared.tables.Order.{Order};
 ghost use Rattle.session.specs.Meaning.{endIn, nextIn};
 ghost use Rattle.session.specs.Engine.{atHandOf, beginOf, betweenOf, Came, Going, Task};
@@ -98,12 +97,10 @@ pub fn advance(
     window: &mut Window,
     packets: &[u8],
     single: bool,
-    digits: &[u8; 256],
     text: &mut [u8; PLACE],
     answers: &mut [u64],
     point: Point,
 ) -> Point
-    requires { ⌜ now digits ≡ digitTable ⌝ }
     requires { ⌜ ((t : Task) × (os : List Order) × Going t (now packets) single os (now room) (now window) (now answers) (now text) point) ⌝ }
     ensures { λ r. ⌜ ((t : Task) (os : List Order) → Going t (now (packets .entry)) single os (now (room .entry)) (now (window .entry)) (now (answers .entry)) (now (text .entry)) point → Came t (now (packets .entry)) single os (now (room .exit)) (now (window .exit)) (now (answers .exit)) (now (text .exit)) point r) ⌝ }
 {
@@ -131,7 +128,7 @@ pub fn advance(
             session_message::free(window, here, place);
             rest = session_message::onward(here, size);
             let bytes = session_message::message(text, packets, here, size);
-            let touched = apply(room, digits, bytes, next);
+            let touched = apply(room, bytes, next);
             next += 1;
             if touched.touches {
                 return at_hand(touched, here, size, next, turn, rest);

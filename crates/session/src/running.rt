@@ -7,7 +7,6 @@ use crate::settling::settle;
 use crate::state::Session;
 use book::tables::no_order;
 use book_room::room::Room;
-use fields::digits;
 use window::places::Window;
 ghost use mathlib.Core.Path.{_≡_};
 ghost use Prim.Native.Nat.{_-_, _≤_};
@@ -54,20 +53,10 @@ pub fn run(
     ensures taken { λ r. ⌜ r .taken ≡ length (packetsFrom single count 0 (now (packets .entry))) ⌝ }
     ensures at { λ r. ⌜ r .at ≡ endFrom single count 0 (now (packets .entry)) ⌝ }
 {
-    let digits = digits::table();
     let mut text = [0u8; Session::MOST];
     let mut point = begin(room, count);
     loop {
-        point = advance(
-            room,
-            window,
-            packets,
-            single,
-            &digits,
-            &mut text,
-            answers,
-            point,
-        );
+        point = advance(room, window, packets, single, &mut text, answers, point);
         if !point.touches {
             let end = ended(count, point);
             return Ran {

@@ -10,7 +10,6 @@ use book_room::telling::tell;
 ghost use mathlib.Core.Path.{_≡_};
 ghost use mathlib.Core.Bool.{false};
 ghost use Prim.Native.Nat.{ℕ};
-ghost use Rattle.fields.specs.Id.{digitTable};
 ghost use Rattle.book.specs.Tables.{Book};
 ghost use Rattle.book_room.specs.Room.{Houses};
 ghost use Rattle.session.specs.Engine.{Touched};
@@ -37,14 +36,13 @@ fn none() -> Touch
 
 // An Add is done but for its record, which goes to the place. Of a message that names an order nothing is
 // done, as that takes the order's record. Any other is done.
-pub fn apply(room: &mut Room, digits: &[u8; 256], bytes: &[u8], number: u64) -> Touch
-    requires { ⌜ now digits ≡ digitTable ⌝ }
+pub fn apply(room: &mut Room, bytes: &[u8], number: u64) -> Touch
     requires { ⌜ ((next end : ℕ) × (b : Book) × Houses (now room) next end b number (now bytes)) ⌝ }
     ensures { λ r. ⌜ ((next end : ℕ) (b : Book) → Houses (now (room .entry)) next end b number (now (bytes .entry)) → Touched (now (room .exit)) next end b number (now (bytes .entry)) r) ⌝ }
 {
     let kind = wire::u8_at(bytes, 2);
     match kind {
-        21 => match add(room, digits, bytes, number) {
+        21 => match add(room, bytes, number) {
             Put::At(place, key) => Touch {
                 touches: true,
                 place,
@@ -56,7 +54,7 @@ pub fn apply(room: &mut Room, digits: &[u8; 256], bytes: &[u8], number: u64) -> 
             Put::Nothing => none(),
         },
         22 | 23 | 24 | 25 => {
-            let name = named(room, digits, bytes);
+            let name = named(room, bytes);
             let order = name.order;
             Touch {
                 touches: true,

@@ -20,11 +20,11 @@ use Rattle.session.proofs.advancing.advance.Statement.{statement}
 use Rattle.session.proofs.advancing.advance.Tie as tie
 
 abbrev Inv-loop : tie.InvT-loop
-Inv-loop room₀ window₀ packets single digits text₀ answers₀ next₀ turn₀ rest₀ room window text answers next turn rest =
+Inv-loop room₀ window₀ packets single text₀ answers₀ next₀ turn₀ rest₀ room window text answers next turn rest =
     Onward packets single room₀ window₀ answers₀ text₀ (betweenOf next₀ turn₀ rest₀) room window answers text (betweenOf next turn rest)
 
 abbrev μ-loop : tie.MeasureT-loop
-μ-loop room₀ window₀ packets single digits text₀ answers₀ next₀ turn₀ rest₀ room window text answers next turn rest = turn .left * 257 + (turn .before + 256 - next)
+μ-loop room₀ window₀ packets single text₀ answers₀ next₀ turn₀ rest₀ room window text answers next turn rest = turn .left * 257 + (turn .before + 256 - next)
 
 packet-bytes : (c : tie.After-shared-slice-known Inv-loop μ-loop) → Bytes (to.entry-from-shared-slice-known c .args .packets .now)
 packet-bytes c = bytes-of (to.entry-from-shared-slice-known c .args .packets .now) (λ i. omega (arith, c .shared-slice-known .given i))
@@ -45,11 +45,11 @@ abbrev is-at : (c : tie.At-loop Inv-loop μ-loop) {t : Task} {os : List Order} �
 is-at c {t} {os} g = c .loop .inv .all t os g
 
 -- the run that is asked for
-asked : (c : tie.At-loop Inv-loop μ-loop) → From c (to.entry-from-loop c .pre .1 .0) (to.entry-from-loop c .pre .1 .1)
-asked c = from-between (to.entry-from-loop c .pre .1 .2)
+asked : (c : tie.At-loop Inv-loop μ-loop) → From c (to.entry-from-loop c .pre .0) (to.entry-from-loop c .pre .1)
+asked c = from-between (to.entry-from-loop c .pre .2)
 
 abbrev one : (c : tie.At-loop Inv-loop μ-loop)
-    → Going (to.entry-from-loop c .pre .1 .0) (to.entry-from-loop c .args .packets .now) (to.entry-from-loop c .args .single) (to.entry-from-loop c .pre .1 .1) (c .loop .room) (c .loop .window) (c .loop .answers) (c .loop .text) (betweenOf (c .loop .next) (c .loop .turn) (c .loop .rest))
+    → Going (to.entry-from-loop c .pre .0) (to.entry-from-loop c .args .packets .now) (to.entry-from-loop c .args .single) (to.entry-from-loop c .pre .1) (c .loop .room) (c .loop .window) (c .loop .answers) (c .loop .text) (betweenOf (c .loop .next) (c .loop .turn) (c .loop .rest))
 one c = is-at c (asked c)
 
 -- ---- nothing waits
@@ -57,7 +57,7 @@ one c = is-at c (asked c)
 same-size : tie.Need-same-length Inv-loop μ-loop
 same-size c =
     let g = one (to.loop-from-between c) in
-    same-length (g .now) (to.size-from-between c .size .ensures) (to.then1-from-between c .if1 .taken) (to.close-from-between c .close .ensures) ∙ g .long ∙ sym (to.entry-from-between c .pre .1 .2 .long)
+    same-length (g .now) (to.size-from-between c .size .ensures) (to.then1-from-between c .if1 .taken) (to.close-from-between c .close .ensures) ∙ g .long ∙ sym (to.entry-from-between c .pre .2 .long)
 
 returns : tie.Need-returns Inv-loop μ-loop
 returns c t os g =
@@ -116,9 +116,8 @@ housed c g =
 
 apply-requires : tie.Need-apply-requires Inv-loop μ-loop
 apply-requires c κs =
-    let before = to.entry-from-apply-arg c .pre in
-    let t = before .1 .0 in
-    (before .0, (t .next, t .end, tabled (one (to.loop-from-apply-arg c) .now), housed (to.message-from-apply-arg c) (asked (to.loop-from-apply-arg c))))
+    let t = to.entry-from-apply-arg c .pre .0 in
+    (t .next, t .end, tabled (one (to.loop-from-apply-arg c) .now), housed (to.message-from-apply-arg c) (asked (to.loop-from-apply-arg c)))
 
 touched : (c : tie.After-apply Inv-loop μ-loop) {t : Task} {os : List Order} (g : From (to.loop-from-apply c) t os)
     → Touched (c .apply .last .0) (t .next) (t .end) (tabled (is-at (to.loop-from-apply c) g .now)) (to.loop-from-apply c .loop .next) (to.message-from-apply c .message .result .now) (c .apply .result)
@@ -128,7 +127,7 @@ fewer : (c : tie.After-apply Inv-loop μ-loop) → to.loop-from-apply c .loop .t
 fewer c = omega (arith, at (to.fetch-from-apply c) .fewer)
 
 same-size-2 : tie.Need-same-length-2 Inv-loop μ-loop
-same-size-2 c = one (to.loop-from-at-hand c) .long ∙ sym (to.entry-from-at-hand c .pre .1 .2 .long)
+same-size-2 c = one (to.loop-from-at-hand c) .long ∙ sym (to.entry-from-at-hand c .pre .2 .long)
 
 returns-2 : tie.Need-returns-2 Inv-loop μ-loop
 returns-2 c t os g =

@@ -19,11 +19,11 @@ use Rattle.session.proofs.running.run.Statement.{statement}
 use Rattle.session.proofs.running.run.Tie as tie
 
 abbrev Inv-loop : tie.InvT-loop
-Inv-loop room₀ window₀ packets single count answers₀ session₀ digits text₀ point₀ room window answers session text point =
+Inv-loop room₀ window₀ packets single count answers₀ session₀ text₀ point₀ room window answers session text point =
     Going (taskOf (held session₀ room₀ window₀) packets single count answers₀) packets single (session .orders) room window answers text point
 
 abbrev μ-loop : tie.MeasureT-loop
-μ-loop room₀ window₀ packets single count answers₀ session₀ digits text₀ point₀ room window answers session text point = stepsLeft point
+μ-loop room₀ window₀ packets single count answers₀ session₀ text₀ point₀ room window answers session text point = stepsLeft point
 
 abbrev task : tie.At-loop Inv-loop μ-loop → Task
 task c = taskOf (held (to.entry-from-loop c .args .t1) (to.entry-from-loop c .args .room .now) (to.entry-from-loop c .args .window .now)) (to.entry-from-loop c .args .packets .now) (to.entry-from-loop c .args .single) (to.entry-from-loop c .args .count) (to.entry-from-loop c .args .answers .now)
@@ -32,17 +32,17 @@ loop-holds : tie.Need-loop-holds Inv-loop μ-loop
 loop-holds c = going-starts (to.entry-from-begin c .pre .0) (to.entry-from-begin c .args .packets .now) (to.entry-from-begin c .args .single) (to.entry-from-begin c .args .answers .now) (to.entry-from-begin c .pre .1) _ (length-replicate {A = ℕ} 128 0) (c .begin .ensures)
 
 advance-requires : tie.Need-advance-requires Inv-loop μ-loop
-advance-requires c κs = (to.table-from-advance-arg3 c .table .ensures, (task (to.loop-from-advance-arg3 c), to.loop-from-advance-arg3 c .loop .session .orders, to.loop-from-advance-arg3 c .loop .inv))
+advance-requires c κs = (task (to.loop-from-advance-arg3 c), to.loop-from-advance-arg3 c .loop .session .orders, to.loop-from-advance-arg3 c .loop .inv)
 
 -- what is lent, behind it
 abbrev window : tie.After-advance Inv-loop μ-loop → List ℕ
 window c = c .advance .last .1 .0
 
 abbrev text : tie.After-advance Inv-loop μ-loop → List ℕ
-text c = c .advance .last .1 .1 .1 .1 .1 .0
+text c = c .advance .last .1 .1 .1 .1 .0
 
 abbrev answers : tie.After-advance Inv-loop μ-loop → List ℕ
-answers c = c .advance .last .1 .1 .1 .1 .1 .1 .0
+answers c = c .advance .last .1 .1 .1 .1 .1 .0
 
 came : (c : tie.After-advance Inv-loop μ-loop)
     → Came (task (to.loop-from-advance c)) (to.entry-from-advance c .args .packets .now) (to.entry-from-advance c .args .single) (to.loop-from-advance c .loop .session .orders) (c .advance .last .0) (window c) (answers c) (text c) (to.loop-from-advance c .loop .point) (c .advance .result)
@@ -99,7 +99,6 @@ run-spec =
     (tie.spec
     Inv-loop
     μ-loop
-    (λ c κs. search needs)
     (λ c κs. search needs)
     loop-holds
     advance-requires

@@ -17,20 +17,19 @@ adds : (c : tie.At-match-keys1) → typeIn (to.entry-from-match-keys1 c .args .b
 adds c = of-kind (to.entry-from-match-keys1 c .args .bytes .now) (to.u8-at-from-match-keys1 c .u8-at .ensures) (c .match .keys1)
 
 add-requires : tie.Need-add-requires
-add-requires c κs = let pre = to.entry-from-add-arg c .pre in ((pre .0, adds (to.match-keys1-from-add-arg c)), pre .1)
+add-requires c κs = (adds (to.match-keys1-from-add-arg c), to.entry-from-add-arg c .pre)
 
 names-one : (c : tie.Then2) → names (typeIn (to.entry-from-then2 c .args .bytes .now)) ≡ true
 names-one c = naming-kind (to.entry-from-then2 c .args .bytes .now) (to.u8-at-from-then2 c .u8-at .ensures) (to.match-rest-from-then2 c .match .rest .1) (to.else1-from-then2 c .if1 .left) (c .if2 .taken)
 
 named-requires : tie.Need-named-requires
 named-requires c κs =
-    let pre = to.entry-from-named-arg2 c .pre in
-    let room = pre .1 in
-    ((pre .0, names-one (to.then2-from-named-arg2 c)), ((room .0, room .1, room .2, lying (room .3)), room .3 .ready .whole))
+    let room = to.entry-from-named-arg2 c .pre in
+    (names-one (to.then2-from-named-arg2 c), ((room .0, room .1, room .2, lying (room .3)), room .3 .ready .whole))
 
 tell-requires : tie.Need-tell-requires
 tell-requires c κs =
-    (telling-kind (to.entry-from-tell-arg c .args .bytes .now) (to.u8-at-from-tell-arg c .u8-at .ensures) (⊎-elim (λ low. inl (low .taken)) (λ high. inr (high .0 .left, high .1 .left)) (to.joined1-from-tell-arg c .if1 .came)), to.entry-from-tell-arg c .pre .1)
+    (telling-kind (to.entry-from-tell-arg c .args .bytes .now) (to.u8-at-from-tell-arg c .u8-at .ensures) (⊎-elim (λ low. inl (low .taken)) (λ high. inr (high .0 .left, high .1 .left)) (to.joined1-from-tell-arg c .if1 .came)), to.entry-from-tell-arg c .pre)
 
 returns : tie.Need-returns
 returns c next end b h = touched-put (adds (to.match-keys1-from-known-told c)) (to.add-from-known-told c .add .ensures next end b h) (to.place-from-known-told c .place .given .1)

@@ -4,13 +4,13 @@ use Rattle.session.proofs.running.run.Tie as tie
 
 module _ {Inv : tie.InvT-loop} {μ : tie.MeasureT-loop} where
   abbrev pub entry-from-begin : tie.After-begin Inv μ → tie.Start Inv μ
-  entry-from-begin c = c .before .before .before .before .before
+  entry-from-begin c = c .before .before .before .before
 
   abbrev pub entry-from-loop : tie.At-loop Inv μ → tie.Start Inv μ
   entry-from-loop c = entry-from-begin (c .before)
 
   abbrev pub entry-from-advance : tie.After-advance Inv μ → tie.Start Inv μ
-  entry-from-advance c = entry-from-loop (c .before .before .before .before .before .before)
+  entry-from-advance c = entry-from-loop (c .before .before .before .before .before)
 
   abbrev pub entry-from-then1 : tie.Then1 Inv μ → tie.Start Inv μ
   entry-from-then1 c = entry-from-advance (c .before .before .before .before)
@@ -21,11 +21,8 @@ module _ {Inv : tie.InvT-loop} {μ : tie.MeasureT-loop} where
   abbrev pub entry-from-settle : tie.After-settle Inv μ → tie.Start Inv μ
   entry-from-settle c = entry-from-text2 (c .before)
 
-  abbrev pub table-from-advance-arg3 : tie.After-advance-arg3 Inv μ → tie.After-table Inv μ
-  table-from-advance-arg3 c = c .before .before .before .before .before .before .before .before
-
   abbrev pub loop-from-advance-arg3 : tie.After-advance-arg3 Inv μ → tie.At-loop Inv μ
-  loop-from-advance-arg3 c = c .before .before .before .before .before
+  loop-from-advance-arg3 c = c .before .before .before .before
 
   abbrev pub loop-from-advance : tie.After-advance Inv μ → tie.At-loop Inv μ
   loop-from-advance c = loop-from-advance-arg3 (c .before)
