@@ -2,7 +2,6 @@
 use book::tables::Order;
 use book::tables::no_order;
 use book_room::room::Room;
-use fields::digits;
 use session::advancing::Ended;
 use session::advancing::Point;
 use session::advancing::advance;
@@ -72,21 +71,10 @@ pub fn run(
     ensures taken { λ r. ⌜ r .taken ≡ length (packetsFrom single count 0 (now (packets .entry))) ⌝ }
     ensures at { λ r. ⌜ r .at ≡ endFrom single count 0 (now (packets .entry)) ⌝ }
 {
-    let digits = digits::table();
-    let table = &digits;
     let mut text = blank();
     let mut point = begin(room, count);
     loop {
-        point = advance(
-            room,
-            window,
-            packets,
-            single,
-            table,
-            &mut text,
-            answers,
-            point,
-        );
+        point = advance(room, window, packets, single, &mut text, answers, point);
         if !point.touches {
             break;
         }

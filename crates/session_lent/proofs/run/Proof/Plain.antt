@@ -1,4 +1,4 @@
--- The calls that are lent nothing: `table`, `blank`, `no_order` and `ended`.
+-- The calls that are lent nothing: `blank`, `no_order` and `ended`.
 -- Assumes `Given`.
 use mathlib.Core.Path.{_≡_, refl}
 use Prim.Native.Nat.{ℕ, _-_, _<_, _≤_, _^_}
@@ -28,8 +28,6 @@ use denote.Triple.Entry.{onEntry}
 use denote.Triple.Spec.{tripleOf}
 use denote.Triple.Walked.{says}
 use sound.Laws.{∗emp}
-use Rattle.fields.specs.Id.{digitTable}
-use Rattle.fields.proofs.digits.table as tab
 use Rattle.book.specs.Tables.{noOrder}
 use Rattle.book.specs.declared.tables.Order.{Order}
 use Rattle.book.proofs.tables.Order as Or
@@ -43,9 +41,6 @@ use Rattle.session.proofs.running.ended as fin
 use Rattle.session_lent.proofs.blank as bla
 
 module _ {M : Type 1} (𝓤 : URA M) (H : Heap 𝓤) (A : Atoms 𝓤) (W : Given 𝓤 H A) (at-mem : Memory → SProp 𝓤) (run : Routine → Fun 𝓤) where
-  abbrev pub Table : Contract 𝓤
-  Table = tripleOf 𝓤 H A tab.signature (tab.spec 𝓤 H A at-mem run)
-
   abbrev pub Blank : Contract 𝓤
   Blank = tripleOf 𝓤 H A bla.signature (bla.spec 𝓤 H A at-mem run)
 
@@ -55,30 +50,17 @@ module _ {M : Type 1} (𝓤 : URA M) (H : Heap 𝓤) (A : Atoms 𝓤) (W : Given
   abbrev pub Finish : Contract 𝓤
   Finish = tripleOf 𝓤 H A fin.signature (fin.spec 𝓤 H A at-mem run)
 
-  abbrev pub to-table : Table .Ghost
-  to-table = ((tt, tt, tt, tt, tt), tt)
-
   abbrev pub to-blank : Blank .Ghost
   to-blank = ((tt, tt, tt, tt, tt), tt)
 
   abbrev pub to-none : None .Ghost
   to-none = ((tt, tt, tt, tt, tt), tt)
 
-  pub table-asks : ent 𝓤 (emp 𝓤) (Table .pre to-table)
-  table-asks = qed W [] ∵ suffices ! (onEntry 𝓤 H A tab.signature tt tt tt tt) (∗emp 𝓤 _) $ nothing ! $ nothing ! $ done !
-
   pub blank-asks : ent 𝓤 (emp 𝓤) (Blank .pre to-blank)
   blank-asks = qed W [] ∵ suffices ! (onEntry 𝓤 H A bla.signature tt tt tt tt) (∗emp 𝓤 _) $ nothing ! $ nothing ! $ done !
 
   pub none-asks : ent 𝓤 (emp 𝓤) (None .pre to-none)
   none-asks = qed W [] ∵ suffices ! (onEntry 𝓤 H A non.signature tt tt tt tt) (∗emp 𝓤 _) $ nothing ! $ nothing ! $ done !
-
-  pub table-gives : (v : Val) → ent 𝓤 (Table .post to-table v) (H .⇛ (ex 𝓤 (λ (r : List ℕ). guard 𝓤 (r ≡ digitTable) (sem 𝓤 H A (Arr u8 256 .own r (v ∷ []))))))
-  table-gives v =
-      qed W (raw (Table .post to-table v) ∷ []) ∵ updating ! $
-      use1 W (later (some (λ (r : List ℕ). (‵ ftrue ⊛ ‵ (Arr u8 256 .own r (v ∷ []))) ⊛ raw (ensured 𝓤 H A tab.ended (tab.clauses 𝓤 H A at-mem run) tt tt tt r)))) (id⊢ 𝓤 _) $ await ! tt $ pick ! (λ r. split ! $ move ! (1 ∷ []) $
-      use1 W (some (λ (ws : Lasts tab.ended tt tt). ‵ (lasts tab.ended tt tt ws) ⊛ raw (fact 𝓤 (r ≡ digitTable)))) (id⊢ 𝓤 _) $ pick ! (λ ws. split ! $ move ! (1 ∷ []) $ heard ! (r ≡ digitTable) (λ e. drop ! $ split ! $ drop ! $
-      at-once ! $ show ! (λ (x : List ℕ). guard 𝓤 (x ≡ digitTable) (sem 𝓤 H A (Arr u8 256 .own x (v ∷ [])))) r $ check ! e $ done !)))
 
   pub blank-gives : (v : Val) → ent 𝓤 (Blank .post to-blank v) (H .⇛ (ex 𝓤 (λ (r : List ℕ). guard 𝓤 (r ≡ replicate 128 0) (sem 𝓤 H A (Arr u8 128 .own r (v ∷ []))))))
   blank-gives v =
