@@ -1,4 +1,4 @@
-// Order ids: the venue's own example, and P1 to P4.
+// Order ids: the venue's own example, P1 to P4, and every digit at a place.
 use crate::tables;
 use crate::tables::Table;
 use printing::answers;
@@ -25,6 +25,9 @@ pub fn run() {
         7A400Ca528L9SN\n\
         7A400CY528L9aa\n\
         00000000000000\n\
+        0123456789ABab\n\
+        CDEFGHIJKLMNab\n\
+        OPQRSTUVWXYZab\n\
         0000000000/000\n\
         00000000000:00\n\
         @0000000000000\n\

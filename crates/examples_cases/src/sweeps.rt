@@ -1,12 +1,15 @@
-// Whole ranges, a character a case: `-` taken, else the refusal's digit (4 is 14 in a message).
+// Whole ranges, a character a case: `-` taken, else the refusal's digit (4 is 14 in a message, 2 is 12 in an id).
 use crate::rows;
 use crate::tables;
 use crate::tables::Table;
+use fields::id::IdValue;
+use fields::id::value;
 use message::Verdict;
 use packet::HeaderAnswer;
 use printing::words::colon;
 use printing::words::end;
 use printing::words::put;
+ghost use Prim.Native.Nat.{_<_};
 
 pub fn run() {
     tables::run(
@@ -15,7 +18,10 @@ pub fn run() {
         flags 0 to 255, 13 bytes, Messages 1 | 2\n\
         types 0 to 255, 3 bytes | 3\n\
         types 0 to 255, 128 bytes of zeros | 4\n\
-        lengths 0 to 255 of type 0 | 5\n",
+        lengths 0 to 255 of type 0 | 5\n\
+        characters 0 to 255, the first of an id | 6\n\
+        characters 0 to 255, the twelfth of an id | 7\n\
+        characters 0 to 255, the thirteenth of an id | 8\n",
     );
 }
 
@@ -40,7 +46,10 @@ fn mark(which: u8, k: u8) {
         2 => header_mark(13, k, 1),
         3 => message_mark(3, k),
         4 => message_mark(128, k),
-        _ => message_mark(k, 0),
+        5 => message_mark(k, 0),
+        6 => id_mark(0, k),
+        7 => id_mark(11, k),
+        _ => id_mark(12, k),
     }
 }
 
@@ -66,6 +75,17 @@ fn message_mark(size: u8, kind: u8) {
     match verdict {
         Verdict::Accepted => put(b"-"),
         Verdict::Refused(number) => digit(number),
+    }
+}
+
+fn id_mark(place: usize, c: u8)
+    requires { ⌜ place < 14 ⌝ }
+{
+    let mut id = [48u8; 14];
+    id[place] = c;
+    match value(id) {
+        IdValue::Value(_) => put(b"-"),
+        IdValue::Refused(number) => digit(number),
     }
 }
 

@@ -15,8 +15,7 @@ use borrow.Author.Tests.{ltb-true, lt-ltb, le-ltb, ne-eqb}
 use Rattle.fields.specs.declared.id.IdValue.{IdValue}
 use Rattle.fields.specs.declared.id.IdValue.the-variants.{Value, Refused}
 use Rattle.fields.specs.Tests.{firstAll}
-use Rattle.fields.specs.Id.{isNumeral, isCapital, isDigit, digitOf, digitTable, goodId, valueOf, noFour, fourOf, noValue, numberOf, isValue, idAnswer, Begun}
-use Rattle.fields.proofs.Table.{entry}
+use Rattle.fields.specs.Id.{isNumeral, isCapital, isDigit, digitOf, goodId, valueOf, noValue, numberOf, isValue, idAnswer}
 use Rattle.fields.proofs.Tests.{in-range, all-before, all-last, all-fail, all-longer, all-take}
 
 -- ---- digits
@@ -45,10 +44,6 @@ is-digit c h = digit-below c ∙ lt-ltb (digitOf c) 36 (omega (arith, digit-most
 
 pub no-digit : (c : ℕ) → digitOf c ≡ 36 → isDigit c ≡ false
 no-digit c h = digit-below c ∙ le-ltb (digitOf c) 36 (omega arith)
-
-pub digit-entry : (digits : List ℕ) (c : ℕ) → digits ≡ digitTable → c < 256 → getD digits c 0 ≡ digitOf c
-unfolding digitTable
-digit-entry digits c table h = ap (λ (l : List ℕ). getD l c 0) table ∙ entry digitOf 256 c h
 
 -- ---- the value
 
@@ -99,11 +94,11 @@ module _ (k : ℕ) (id : List ℕ) {n : ℕ} (is : n ≡ cond (firstAll isDigit 
   read-some : n ≢ 36 ^ k → (firstAll isDigit k id ≡ true) × (n ≡ valueOf k id)
   read-some = read-cases k id n (firstAll isDigit k id) refl is .1
 
-number-good : (id : List ℕ) → goodId id ≡ true → valueOf 12 id ≡ numberOf id
+pub number-good : (id : List ℕ) → goodId id ≡ true → valueOf 12 id ≡ numberOf id
 unfolding numberOf
 number-good id good = rw good
 
-number-bad : (id : List ℕ) → goodId id ≡ false → noValue ≡ numberOf id
+pub number-bad : (id : List ℕ) → goodId id ≡ false → noValue ≡ numberOf id
 unfolding numberOf
 number-bad id bad = rw bad
 
@@ -140,99 +135,3 @@ accepted-cond false v n = refl
 pub accepted-good : (id : List ℕ) {answer case : IdValue} → answer ≡ idAnswer id → answer ≡ case → accepted case ≡ goodId id
 unfolding idAnswer
 accepted-good id is found = ap accepted (sym found ∙ is) ∙ accepted-cond (goodId id) (valueOf 12 id) 12
-
--- ---- four characters
-
-module _ (a b c d : ℕ) where
-  pub four-none : (k : ℕ) {v : ℕ} → k < 4 → v ≡ digitOf (getD (a ∷ b ∷ c ∷ d ∷ []) k 0) → v ≡ 36 → noFour ≡ fourOf a b c d
-  unfolding fourOf
-  four-none k inside is none =
-      rw (all-fail isDigit (a ∷ b ∷ c ∷ d ∷ []) k 4 inside (no-digit (getD (a ∷ b ∷ c ∷ d ∷ []) k 0) (sym is ∙ none)))
-
-  four-good : firstAll isDigit 4 (a ∷ b ∷ c ∷ d ∷ []) ≡ true → valueOf 4 (a ∷ b ∷ c ∷ d ∷ []) ≡ fourOf a b c d
-  unfolding fourOf
-  four-good good = rw good
-
-  module _ {v w x y : ℕ} (first : v ≡ digitOf a) (second : w ≡ digitOf b) (third : x ≡ digitOf c) (fourth : y ≡ digitOf d) where
-    four-all : v ≢ 36 → w ≢ 36 → x ≢ 36 → y ≢ 36 → firstAll isDigit 4 (a ∷ b ∷ c ∷ d ∷ []) ≡ true
-    unfolding firstAll
-    four-all p q r s =
-        simp (
-          is-digit a (λ e. p (first ∙ e)),
-          is-digit b (λ e. q (second ∙ e)),
-          is-digit c (λ e. r (third ∙ e)),
-          is-digit d (λ e. s (fourth ∙ e)),
-        )
-
-    four-value : (v * 36 + w) * 1296 + (x * 36 + y) ≡ valueOf 4 (a ∷ b ∷ c ∷ d ∷ [])
-    unfolding valueOf
-    four-value = omega arith
-
-    pub four-some : v ≢ 36 → w ≢ 36 → x ≢ 36 → y ≢ 36 → (v * 36 + w) * 1296 + (x * 36 + y) ≡ fourOf a b c d
-    four-some p q r s = four-value ∙ four-good (four-all p q r s)
-
--- ---- reading on, four characters at a time
-
--- the four characters from k on
-abbrev fourFrom : List ℕ → ℕ → List ℕ
-fourFrom id k = getD id k 0 ∷ getD id (k + 1) 0 ∷ getD id (k + 2) 0 ∷ getD id (k + 3) 0 ∷ []
-
--- their value
-abbrev groupAt : List ℕ → ℕ → ℕ
-groupAt id k = fourOf (getD id k 0) (getD id (k + 1) 0) (getD id (k + 2) 0) (getD id (k + 3) 0)
-
-and-four : (f a b c d : Bool) → ((((f && a) && b) && c) && d) ≡ (f && ((((true && a) && b) && c) && d))
-and-four true a b c d = refl
-and-four false a b c d = refl
-
-good-four : (id : List ℕ) (k : ℕ) → firstAll isDigit (k + 4) id ≡ (firstAll isDigit k id && firstAll isDigit 4 (fourFrom id k))
-unfolding firstAll
-good-four id k = simp unary-clauses (and-four (firstAll isDigit k id) _ _ _ _)
-
-value-four : (id : List ℕ) (k : ℕ) → valueOf (k + 4) id ≡ valueOf k id * noFour + valueOf 4 (fourFrom id k)
-unfolding valueOf
-value-four id k = simp unary-clauses (omega arith)
-
-module _ {digits id : List ℕ} {left sofar : ℕ} (begun : Begun digits id left sofar) where
-  pub begun-done : left ≡ 0 → sofar ≡ numberOf id
-  unfolding goodId
-  begun-done done =
-      let all : 12 - left ≡ 12 = omega arith in
-      begun .value ∙ ap (λ (k : ℕ). valueOf k id) all ∙ number-good id (rw all at (begun .good))
-
-  module _ (more : left ≢ 0) {group : ℕ} (read : group ≡ groupAt id (12 - left)) where
-    four-more : 12 - (left - 4) ≡ 12 - left + 4
-    four-more = omega (arith, begun .few, begun .groups)
-
-    good-read : firstAll isDigit (12 - (left - 4)) id ≡ firstAll isDigit 4 (fourFrom id (12 - left))
-    good-read = rw four-more (good-four id (12 - left) ∙ rw (begun .good))
-
-    pub begun-bad : group ≡ noFour → noValue ≡ numberOf id
-    unfolding goodId fourOf
-    begun-bad none =
-        let inside : 12 - (left - 4) ≤ 12 = omega arith in
-        number-bad id (all-longer isDigit id (12 - (left - 4)) 12 inside (good-read ∙ read-none 4 (fourFrom id (12 - left)) read none))
-
-    module _ (some : group ≢ noFour) where
-      group-read : (firstAll isDigit 4 (fourFrom id (12 - left)) ≡ true) × (group ≡ valueOf 4 (fourFrom id (12 - left)))
-      unfolding fourOf
-      group-read = read-some 4 (fourFrom id (12 - left)) read some
-
-      good-more : firstAll isDigit (12 - (left - 4)) id ≡ true
-      good-more = good-read ∙ group-read .0
-
-      value-more : sofar * noFour + group ≡ valueOf (12 - (left - 4)) id
-      value-more = rw (four-more, value-four id (12 - left), ← begun .value, ← group-read .1)
-
-      pub begun-more : Begun digits id (left - 4) (sofar * noFour + group)
-      begun-more =
-          record { table = begun .table; few = omega arith; groups = omega (arith, begun .groups); good = good-more; value = value-more }
-
-      pub begun-fits : sofar * noFour + group < 2 ^ 64
-      begun-fits =
-          let most : 12 - (left - 4) ≤ 12 = omega arith in
-          rw
-          value-more
-          (lt-trans
-          (lt-of-lt-of-le (value-below id (12 - (left - 4)) good-more) (pow-le-pow-right (lit< tt) most))
-          (lit< tt))

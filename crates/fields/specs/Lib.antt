@@ -1,4 +1,5 @@
 pub mod Table
 pub mod Tests
 pub mod Id
+pub mod Four
 pub mod Rules

@@ -1,6 +1,6 @@
 // An order id's value, and its rule.
-use crate::digits;
-use crate::parts;
+use crate::parts::NONE;
+use crate::parts::number;
 ghost use mathlib.Core.Path.{_≡_};
 ghost use Rattle.fields.specs.Id.{goodId, idAnswer};
 
@@ -10,23 +10,14 @@ pub enum IdValue {
     Refused(u8),
 }
 
-// One id by itself, character by character. Where many are read, `parts::value_with` is lent the digits; it has that one
-// caller, so that it is inlined there.
 pub fn value(id: [u8; 14]) -> IdValue
     ensures { λ r. ⌜ r ≡ idAnswer id ⌝ }
 {
-    let digits = digits::table();
-    let mut sofar: u64 = 0;
-    let mut k: usize = 0;
-    while k < 12 {
-        let digit = parts::digit_of(&digits, id[k]);
-        if digit == 36 {
-            return IdValue::Refused(12);
-        }
-        sofar = sofar * 36 + digit;
-        k += 1;
+    let number = number(id);
+    if number == NONE {
+        return IdValue::Refused(12);
     }
-    IdValue::Value(sofar)
+    IdValue::Value(number)
 }
 
 pub fn good_id(id: [u8; 14]) -> bool

@@ -439,8 +439,21 @@ fn damage_packet(packet: &mut Vec<u8>, random: &mut Random) {
     }
 }
 
+/// The id's value of the library and of the twin.
+fn ids_agree(id: &[u8; 14], case: u64) {
+    assert_eq!(
+        id_value(id).map_err(numbered),
+        fields::id_value(id).ok_or(Refusal(12)),
+        "seed {}, case {case}: {id:02x?}",
+        seed()
+    );
+}
+
 #[test]
 fn ids() {
+    let edges = [
+        b'/', b'0', b'9', b':', b'@', b'A', b'Z', b'[', b'`', b'a', b'z', 0, 0x7f, 0x80, 0xff, b' ',
+    ];
     let mut random = Random::new(seed());
     for case in 0..CASES {
         let mut id = [0; 14];
@@ -448,16 +461,25 @@ fn ids() {
             *byte = random.pick(b"0123456789ABCDEFGHIJKLMNOPQRSTUVWXYZ0Z");
         }
         if random.chance(500) {
-            let edges = [
-                b'/', b':', b'@', b'[', b'a', b'z', 0, 0x7f, 0x80, 0xff, b' ',
-            ];
-            id[random.below(14) as usize] = random.pick(&edges);
+            for _ in 0..random.between(1, 4) {
+                id[random.below(14) as usize] = match random.below(4) {
+                    0 => random.byte(),
+                    _ => random.pick(&edges),
+                };
+            }
         }
-        assert_eq!(
-            id_value(&id).map_err(numbered),
-            fields::id_value(&id).ok_or(Refusal(12)),
-            "seed {}, case {case}: {id:02x?}",
-            seed()
-        );
+        ids_agree(&id, case);
+    }
+}
+
+/// Every two characters side by side, where one that is no digit could change how the next is read.
+#[test]
+fn ids_two_characters() {
+    for place in 0..13 {
+        for two in 0..=u16::MAX {
+            let mut id = *b"7A400CY528L9SN";
+            id[place..place + 2].copy_from_slice(&two.to_be_bytes());
+            ids_agree(&id, (place as u64) << 16 | two as u64);
+        }
     }
 }
