@@ -2,7 +2,7 @@
 use mathlib.Core.Path.{_≡_, refl, sym, ap, ap₂, _∙_}
 use mathlib.Core.Logic.{⊎-elim}
 use mathlib.Core.Bool.{Bool, true, false, cond, _||_, or-true, true≢false}
-use mathlib.Core.List.{List, [], _∷_}
+use mathlib.Core.List.{[], _∷_}
 use Prim.Native.Nat.{ℕ, _+_, _-_, _*_, _/_, _%_, _^_, _≤_, _<_}
 use native.Mathlib.Nat.{eq-zero-or-pos, mod-lt}
 use native.Mathlib.Omega.{arith}
@@ -27,14 +27,14 @@ summed a b c d ha hb hc hd =
 -- ---- one character
 
 -- the bit that capitals have and numerals have not
-abbrev letter : ℕ → ℕ
+abbrev pub letter : ℕ → ℕ
 letter x = x / 64 % 2
 
 -- x is the character of the digit p: 48 more, and 7 more again from 10 on, which are the letters
-record Spells (x p : ℕ) : Type 0 where
-  is : x ≡ p + 48 + letter x * 7
-  digit : p < 36
-  ten : (p + 118) / 128 ≡ letter x
+pub record Spells (x p : ℕ) : Type 0 where
+  pub is : x ≡ p + 48 + letter x * 7
+  pub digit : p < 36
+  pub ten : (p + 118) / 128 ≡ letter x
 
 spelt : (x : ℕ) (n a : Bool) → isNumeral x ≡ n → isCapital x ≡ a → n || a ≡ true → Spells x (cond n (x - 0x30) (cond a (x - 0x41 + 10) 36))
 spelt x true a p q h = let r = in-range 0x30 0x39 x p in record { is = omega arith; digit = omega arith; ten = omega arith }
@@ -42,7 +42,7 @@ spelt x false true p q h = let r = in-range 0x41 0x5A x q in record { is = omega
 spelt x false false p q h = absurd (true≢false (sym h))
 
 -- a digit's character spells it, and a character that spells one is a digit
-digit-spelt : (x : ℕ) → isDigit x ≡ true → Spells x (digitOf x)
+pub digit-spelt : (x : ℕ) → isDigit x ≡ true → Spells x (digitOf x)
 unfolding isDigit digitOf
 digit-spelt x good = spelt x (isNumeral x) (isCapital x) refl refl good
 

@@ -1,49 +1,22 @@
--- Laws of an id's digits, rule, value and answer.
+-- Laws of an id's rule, value and answer.
 use mathlib.Core.Path.{_≡_, refl, sym, ap, ap₂, _∙_}
 use mathlib.Core.Logic.{_≢_}
-use mathlib.Core.Bool.{Bool, true, false, cond, _&&_, _||_}
-use mathlib.Core.List.{List, [], _∷_}
-use Prim.Native.Nat.{ℕ, zero, suc, _+_, _-_, _*_, _^_, _≤_, _<_}
-use native.Mathlib.Nat.{le-of-suc-le, le-refl, mul-comm, pow-suc, pow-le-pow-right, lt-of-lt-of-le, lt-trans}
-use native.Mathlib.Numerals.{unary-clauses}
+use mathlib.Core.Bool.{Bool, true, false, cond}
+use mathlib.Core.List.{List}
+use Prim.Native.Nat.{ℕ, zero, suc, _+_, _*_, _^_, _≤_, _<_}
+use native.Mathlib.Nat.{le-of-suc-le, le-refl, mul-comm, pow-suc}
 use native.Mathlib.Omega.{arith}
 use lib.Arith.{digits-lt}
-use lib.Dec.{ltb, lit<}
+use lib.Dec.{lit<}
 use lib.ListN.{getD, take}
 use lib.Seq.{getD-take}
-use borrow.Author.Tests.{ltb-true, lt-ltb, le-ltb, ne-eqb}
+use borrow.Author.Tests.{ne-eqb}
 use Rattle.fields.specs.declared.id.IdValue.{IdValue}
 use Rattle.fields.specs.declared.id.IdValue.the-variants.{Value, Refused}
 use Rattle.fields.specs.Tests.{firstAll}
-use Rattle.fields.specs.Id.{isNumeral, isCapital, isDigit, digitOf, goodId, valueOf, noValue, numberOf, isValue, idAnswer}
-use Rattle.fields.proofs.Tests.{in-range, all-before, all-last, all-fail, all-longer, all-take}
-
--- ---- digits
-
-digit-cases : (c : ℕ) (n a : Bool) → isNumeral c ≡ n → isCapital c ≡ a
-    → (n || a ≡ ltb (cond n (c - 0x30) (cond a (c - 0x41 + 10) 36)) 36) × (cond n (c - 0x30) (cond a (c - 0x41 + 10) 36) ≤ 36)
-digit-cases c true a p q =
-    let h = in-range _ _ c p in
-    (sym (lt-ltb (c - 0x30) 36 (omega arith)), omega arith)
-digit-cases c false true p q =
-    let h = in-range _ _ c q in
-    (sym (lt-ltb (c - 0x41 + 10) 36 (omega arith)), omega arith)
-digit-cases c false false p q = (refl, le-refl 36)
-
--- a character is a digit exactly where its digit is below 36
-pub digit-below : (c : ℕ) → isDigit c ≡ ltb (digitOf c) 36
-unfolding isDigit digitOf
-digit-below c = digit-cases c (isNumeral c) (isCapital c) refl refl .0
-
-pub digit-most : (c : ℕ) → digitOf c ≤ 36
-unfolding digitOf
-digit-most c = digit-cases c (isNumeral c) (isCapital c) refl refl .1
-
-pub is-digit : (c : ℕ) → digitOf c ≢ 36 → isDigit c ≡ true
-is-digit c h = digit-below c ∙ lt-ltb (digitOf c) 36 (omega (arith, digit-most c))
-
-pub no-digit : (c : ℕ) → digitOf c ≡ 36 → isDigit c ≡ false
-no-digit c h = digit-below c ∙ le-ltb (digitOf c) 36 (omega arith)
+use Rattle.fields.specs.Id.{isDigit, digitOf, goodId, valueOf, noValue, numberOf, isValue, idAnswer}
+use Rattle.fields.proofs.Tests.{all-before, all-last, all-take}
+use Rattle.fields.proofs.Four.{digit-spelt}
 
 -- ---- the value
 
@@ -51,8 +24,9 @@ pub value-below : (id : List ℕ) (k : ℕ) → firstAll isDigit k id ≡ true �
 unfolding valueOf
 value-below id zero good = lit< tt
 value-below id (suc k) good =
-    let small : digitOf (getD id k 0) < 36 = ltb-true (digitOf (getD id k 0)) 36 (sym (digit-below (getD id k 0)) ∙ all-last isDigit id k good) in
-    rw (mul-comm 36 (valueOf k id), pow-suc) (digits-lt (value-below id k (all-before isDigit id k good)) small)
+    rw
+    (mul-comm 36 (valueOf k id), pow-suc)
+    (digits-lt (value-below id k (all-before isDigit id k good)) (digit-spelt (getD id k 0) (all-last isDigit id k good) .digit))
 
 -- no character past the first k counts
 pub value-take : (id : List ℕ) (k n : ℕ) → k ≤ n → valueOf k (take n id) ≡ valueOf k id

@@ -1,5 +1,4 @@
 -- Laws that the proofs of several functions, and of the crates above, cite.
-pub mod Table
 pub mod Tests
 pub mod Bytes
 pub mod Four

@@ -1,4 +1,5 @@
--- How an id is read: four characters at a time, side by side in a number of 32 bits, the first lowest.
+-- What the parts that read an id promise each other: they take four characters at a time, side by side in a number of 32 bits, the first
+-- lowest. What an id's value is stands in Id.antt.
 use Prim.Native.Nat.{ℕ, _+_, _-_, _*_, _/_, _%_, _^_, _≤_, _<_}
 use mathlib.Core.Path.{_≡_}
 use mathlib.Core.Bool.{true}

@@ -1,4 +1,3 @@
-pub mod Table
 pub mod Tests
 pub mod Id
 pub mod Four

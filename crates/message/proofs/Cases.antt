@@ -3,7 +3,8 @@
 use mathlib.Core.Path.{_≡_, refl, ap, _∙_, sym, subst}
 use mathlib.Core.Bool.{Bool, true, false, not, _&&_}
 use mathlib.Core.List.{List, [], _∷_, map}
-use Prim.Native.Nat.{ℕ, _+_, _≤_, _<_}
+use Prim.Native.Nat.{ℕ, zero, suc, _+_, _≤_, _<_}
+use native.Mathlib.Nat.{le-of-suc-le-suc, not-suc-le-zero}
 use native.Mathlib.Omega.{arith}
 use borrow.Author.Tests.{eqb-false, eqb-true, ltb-false, ltb-true, ne-eqb}
 use lib.Dec.{eqb, ltb}
@@ -12,12 +13,10 @@ use Rattle.wire.specs.Choice.{listedAt}
 use Rattle.wire.specs.Layout.{Field, Value}
 use Rattle.fields.specs.Id.{goodId}
 use Rattle.fields.specs.Rules.{goodPrice, goodQuantity}
-use Rattle.fields.specs.Table.{tabulate}
-use Rattle.fields.proofs.Table.{entry}
 use Rattle.message.specs.Layouts.{head, layoutOf}
 use Rattle.message.specs.Row.{bare, fieldsOf, messageOf, priceOf, typeOfTerms}
 use Rattle.message.specs.Rules.{FieldRule, brokenBy, brokenOf, brokenOr, firstBroken, keeps, number, placed, rulesOf}
-use Rattle.message.specs.Table.{below, payloadOf, payloads, payloadTable, tooShort}
+use Rattle.message.specs.Table.{below, payloadOf, payloads, payloadTable, tabulate, tooShort}
 use Rattle.message.specs.declared.kinds.Body.the-variants.{Execution, Other}
 use Rattle.message.specs.declared.kinds.Terms.{Terms}
 use Rattle.message.specs.declared.kinds.Terms.the-variants.{Published, Own}
@@ -97,6 +96,13 @@ module _ (P : ℕ → Type 0) where
   pub by-type : P 9 → P 11 → P 12 → P 20 → P 21 → P 22 → P 23 → P 24 → P 25 → P 26 → P 27 → ((t : ℕ) → Unopened t → P t) → (t : ℕ) → P t
   by-type p9 p11 p12 p20 p21 p22 p23 p24 p25 p26 p27 others t =
       either 9 t p9 (λ n9. either 11 t p11 (λ n11. either 12 t p12 (λ n12. either 20 t p20 (λ n20. either 21 t p21 (λ n21. either 22 t p22 (λ n22. either 23 t p23 (λ n23. either 24 t p24 (λ n24. either 25 t p25 (λ n25. either 26 t p26 (λ n26. either 27 t p27 (λ n27. others t (((((((((((tt, n9), n11), n12), n20), n21), n22), n23), n24), n25), n26), n27))))))))))))
+
+-- what a table that is worked out from a rule holds at a place: the rule
+entry : (f : ℕ → ℕ) (n k : ℕ) → k < n → getD (tabulate f n) k 0 ≡ f k
+unfolding tabulate
+entry f zero k h = absurd (not-suc-le-zero h)
+entry f (suc n) zero h = refl
+entry f (suc n) (suc k) h = entry (λ j. f (suc j)) n k (le-of-suc-le-suc h)
 
 -- what the table has at a type; behind it none is listed
 pub needed : (sizes : List ℕ) (k : ℕ) → sizes ≡ payloadTable → k < 32 → getD sizes k 0 ≡ payloadOf k

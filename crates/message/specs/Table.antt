@@ -2,9 +2,8 @@
 -- Assumes nothing.
 use mathlib.Core.Bool.{Bool, not, _&&_}
 use mathlib.Core.List.{List, [], _∷_}
-use Prim.Native.Nat.{ℕ, _+_}
+use Prim.Native.Nat.{ℕ, zero, suc, _+_}
 use lib.Dec.{eqb, ltb}
-use Rattle.fields.specs.Table.{tabulate}
 use Rattle.wire.specs.Choice.{listedAt}
 
 -- type and payload, as document 01 lists them
@@ -23,6 +22,11 @@ below n payload = not (eqb payload 255) && ltb n (3 + payload)
 -- a message of n bytes is of a listed type and shorter than 3 + payload
 abbrev pub tooShort : ℕ → ℕ → Bool
 tooShort type n = below n (payloadOf type)
+
+-- f 0, f 1, and so on: n of them
+unfoldable pub tabulate : (ℕ → ℕ) → ℕ → List ℕ
+tabulate f zero = []
+tabulate f (suc n) = f 0 ∷ tabulate (λ k. f (suc k)) n
 
 -- the payload of each type below 32: all that are listed are among them
 unfoldable pub payloadTable : List ℕ

@@ -1,5 +1,4 @@
 -- `digits` subtracts at most 55 a byte; what wraps is what the definition takes modulo 2 ^ 32.
-use Prim.Native.Nat.{ℕ, _<_}
 use native.Mathlib.Omega.{arith}
 use lib.Bits.{and-le-r}
 use borrow.Author.Needs.{needs}

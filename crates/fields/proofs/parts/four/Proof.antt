@@ -1,5 +1,4 @@
 -- `four` joins the digits by pairs, and the pairs; neither runs over into the other.
-use Prim.Native.Nat.{ℕ, _<_}
 use native.Mathlib.Omega.{arith}
 use lib.Bits.{and-le-r}
 use borrow.Author.Needs.{needs}

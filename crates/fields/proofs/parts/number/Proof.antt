@@ -1,6 +1,4 @@
 -- `number` begins with no character read.
-use mathlib.Core.Path.{refl}
-use native.Mathlib.Omega.{arith}
 use borrow.Author.Needs.{needs}
 use Rattle.fields.proofs.Begun.{begun-none}
 use Rattle.fields.proofs.parts.number.Statement.{statement}

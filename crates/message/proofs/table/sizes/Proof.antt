@@ -1,8 +1,7 @@
 -- `message::sizes` hands out the table that document 01 lists: antt computes all entries and compares.
 -- Assumes nothing.
 use mathlib.Core.Path.{refl}
-use Rattle.fields.specs.Table.{tabulate}
-use Rattle.message.specs.Table.{payloadOf, payloadTable}
+use Rattle.message.specs.Table.{payloadOf, payloadTable, tabulate}
 use Rattle.message.proofs.table.sizes.Statement.{statement}
 use Rattle.message.proofs.table.sizes.Tie as tie
 
