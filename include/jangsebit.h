@@ -22,7 +22,7 @@
 #endif
 
 /* What `jangsebit_version` answers where library and header belong together. */
-#define JANGSEBIT_VERSION 1
+#define JANGSEBIT_VERSION 2
 
 /* How many orders can be live and insides held, how many numbers can be waited for; the numbers of the room and the
  * bytes of the window. */
@@ -100,9 +100,10 @@ enum jangsebit_fault {
     JANGSEBIT_INSIDES_FULL = 8
 };
 
-/* What `jangsebit_pass` made of a packet: it carries next, and nothing was done; it was kept; it was refused. */
+/* What `jangsebit_pass` made of a packet: it carries next or a message waits there, and nothing was done; it was kept;
+ * it was refused. */
 enum jangsebit_passed {
-    JANGSEBIT_CARRIES = 0,
+    JANGSEBIT_APPLIES = 0,
     JANGSEBIT_KEPT = 1,
     JANGSEBIT_REFUSED = 2
 };
@@ -139,6 +140,31 @@ void jangsebit_packets(
     uint64_t *answers,
     size_t answers_len,
     uint64_t told[3]);
+
+uint64_t jangsebit_keep(
+    uint64_t room[JANGSEBIT_ROOM],
+    uint8_t window[JANGSEBIT_WINDOW],
+    const uint8_t *packet,
+    size_t packet_len,
+    uint64_t told[1]);
+
+void jangsebit_keep_packets(
+    uint64_t room[JANGSEBIT_ROOM],
+    uint8_t window[JANGSEBIT_WINDOW],
+    const uint8_t *packets,
+    size_t packets_len,
+    uint64_t count,
+    uint64_t *answers,
+    size_t answers_len,
+    uint64_t told[3]);
+
+uint64_t jangsebit_apply(
+    struct jangsebit_order session[JANGSEBIT_ORDERS],
+    uint64_t room[JANGSEBIT_ROOM],
+    uint8_t window[JANGSEBIT_WINDOW],
+    uint64_t count);
+
+uint64_t jangsebit_lowest(const uint64_t room[JANGSEBIT_ROOM], const uint8_t window[JANGSEBIT_WINDOW]);
 
 void jangsebit_numbers(const uint64_t room[JANGSEBIT_ROOM], uint64_t told[8]);
 
@@ -221,13 +247,22 @@ struct jsb_answer {
     uint64_t end;
 };
 
-/* How many packets of a burst were taken, and how many bytes they are with their lengths. */
+/* Of one packet of a burst that keeps: how many of its numbers wait that did not before, the refusal, and next and end
+ * behind it. */
+struct jsb_kept {
+    uint64_t fresh;
+    uint64_t refusal;
+    uint64_t next;
+    uint64_t end;
+};
+
+/* How many packets of a burst were taken, or kept, and how many bytes they are with their lengths. */
 struct jsb_taken {
     size_t packets;
     size_t bytes;
 };
 
-/* `next` is the lowest number that is still to come, `end` is behind the largest that is known of; `code` is that of
+/* `next` is the lowest number that is not applied, `end` is behind the largest that is known of; `code` is that of
  * the last Trading Session, 0 before the first. Of `faults` messages that faulted since the opening, the first had the
  * number `fault` and the reason `reason` (an enum jangsebit_fault); all three are 0 where none did. */
 struct jsb_numbers {
@@ -303,6 +338,7 @@ static_assert(offsetof(struct jangsebit, orders) == 0, "orders");
 static_assert(offsetof(struct jangsebit, room) == 10240, "room");
 static_assert(offsetof(struct jangsebit, window) == 28688, "window");
 static_assert(sizeof(struct jsb_answer) == 4 * sizeof(uint64_t), "an answer is four numbers");
+static_assert(sizeof(struct jsb_kept) == 4 * sizeof(uint64_t), "an answer of a burst that keeps is four numbers");
 static_assert(sizeof(struct jsb_numbers) == 8 * sizeof(uint64_t), "the numbers are eight");
 static_assert(sizeof(struct jsb_question) == 15, "a question has 15 bytes");
 static_assert(sizeof(struct jsb_quote) == 4 * sizeof(uint64_t), "a quote is four numbers");
@@ -319,17 +355,18 @@ static inline void jsb_open(struct jangsebit *held, uint32_t number)
     jangsebit_open(held->orders, held->room, held->window, number);
 }
 
-/* Takes one packet. Answers 0, and into `applied` how many messages it brought to their turn, its own and such as waited
- * for it. Refuses with 1 to 10, the first that applies; then `applied` is 0 and the session is left as it was. */
+/* Takes one packet: keeps it and, unless that is refused, applies all that waits from next on. Answers 0, and into
+ * `applied` how many messages those were, its own and such as waited. Refuses with 1 to 10, the first that applies; then
+ * `applied` is 0 and the session is left as it was. */
 static inline enum jangsebit_refusal jsb_take(
     struct jangsebit *held, const uint8_t *packet, size_t size, uint64_t *applied)
 {
     uint64_t told[3] = {0, 0, 0};
     uint64_t answer[4] = {0, 0, 0, 0};
     *applied = 0;
-    /* A packet that does not carry next touches no table, and then the tables are not moved. */
+    /* A packet that does not carry next, while nothing waits there, touches no table: the tables are not moved. */
     jangsebit_pass(held->room, held->window, packet, size, told);
-    if (told[0] != JANGSEBIT_CARRIES) {
+    if (told[0] != JANGSEBIT_APPLIES) {
         return (enum jangsebit_refusal)told[1];
     }
     jangsebit_packets(held->orders, held->room, held->window, packet, size, 1, 1, answer, 4, told);
@@ -353,7 +390,48 @@ static inline struct jsb_taken jsb_burst(
     return taken;
 }
 
-/* Answers the numbers of a session. Refuses nothing; the session is left as it was, as by all that follow. */
+/* Judges one packet and keeps its messages waiting; nothing is applied. Answers 0, and into `fresh` how many of its
+ * numbers wait that did not before. Refuses with 1 to 10, the first that applies; then `fresh` is 0 and the session is
+ * left as it was. */
+static inline enum jangsebit_refusal jsb_keep(
+    struct jangsebit *held, const uint8_t *packet, size_t size, uint64_t *fresh)
+{
+    uint64_t told[1] = {0};
+    uint64_t refusal = jangsebit_keep(held->room, held->window, packet, size, told);
+    *fresh = told[0];
+    return (enum jangsebit_refusal)refusal;
+}
+
+/* Keeps the first `count` packets of the bytes, which are as for `jsb_burst`, and applies nothing. Answers how many those
+ * were and where the bytes behind them begin, and for each packet what `jsb_keep` for it alone would give, refusals among
+ * them. As a whole it refuses nothing. Answers behind the last packet's are left as they were. */
+static inline struct jsb_taken jsb_keep_burst(
+    struct jangsebit *held, const uint8_t *packets, size_t size, struct jsb_kept *answers, size_t count)
+{
+    uint64_t told[3] = {0, 0, 0};
+    struct jsb_taken taken;
+    jangsebit_keep_packets(
+        held->room, held->window, packets, size, count, (uint64_t *)(void *)answers, 4 * count, told);
+    taken.packets = (size_t)told[1];
+    taken.bytes = (size_t)told[2];
+    return taken;
+}
+
+/* Applies what waits from next on, in order, `count` messages at most, and answers how many; UINT64_MAX applies all that
+ * can be. Refuses nothing; where the answer is 0 the session is left as it was. */
+static inline uint64_t jsb_apply(struct jangsebit *held, uint64_t count)
+{
+    return jangsebit_apply(held->orders, held->room, held->window, count);
+}
+
+/* Answers the lowest number from the opening on that no accepted packet has carried: applying all brings next there.
+ * Refuses nothing; the session is left as it was, as by all that follow. */
+static inline uint64_t jsb_lowest(const struct jangsebit *held)
+{
+    return jangsebit_lowest(held->room, held->window);
+}
+
+/* Answers the numbers of a session. Refuses nothing. */
 static inline struct jsb_numbers jsb_numbers(const struct jangsebit *held)
 {
     uint64_t told[8] = {0, 0, 0, 0, 0, 0, 0, 0};

@@ -191,6 +191,74 @@ static void bursts(void)
     EXPECT(now.faults == 1 && now.fault == 12 && now.reason == JANGSEBIT_ALREADY_LIVE);
 }
 
+/* Three Adds kept, and applied one and two at a time. */
+static void keeping(void)
+{
+    uint8_t framed[FRAMED], packets[4 * FRAMED];
+    struct jsb_kept answers[5];
+    struct jsb_taken taken;
+    uint64_t fresh = 99, applied = 99, told[3] = {99, 99, 99};
+    memset(&held, STALE, sizeof held);
+    jsb_open(&held, 10);
+    EXPECT(jsb_lowest(&held) == 10 && jsb_apply(&held, UINT64_MAX) == 0);
+    add(framed, 10, "000000000010ZZ", 'B', 300, 1250000);
+    EXPECT(jsb_keep(&held, framed + 2, ADD, &fresh) == JANGSEBIT_DONE && fresh == 1);
+    EXPECT(jsb_keep(&held, framed + 2, ADD, &fresh) == JANGSEBIT_DONE && fresh == 0);
+    EXPECT(jsb_numbers(&held).next == 10 && jsb_numbers(&held).end == 11 && jsb_numbers(&held).live == 0);
+    EXPECT(jsb_lowest(&held) == 11);
+
+    before = held;
+    fresh = 99;
+    framed[2 + 64] = 'N';
+    EXPECT(jsb_keep(&held, framed + 2, ADD, &fresh) == JANGSEBIT_COPIES_DIFFER && fresh == 0 && unchanged());
+    EXPECT(jsb_take(&held, framed + 2, ADD, &applied) == JANGSEBIT_COPIES_DIFFER && applied == 0 && unchanged());
+    EXPECT(jsb_keep(&held, framed + 2, 11, &fresh) == JANGSEBIT_UNDER_HEADER && fresh == 0 && unchanged());
+    add(framed, 266, "000000000020ZZ", 'B', 200, 1250000);
+    EXPECT(jsb_keep(&held, framed + 2, ADD, &fresh) == JANGSEBIT_PAST_WINDOW && fresh == 0 && unchanged());
+    EXPECT(jsb_apply(&held, 0) == 0 && unchanged());
+    /* the export itself leaves the count on a refusal, and passes no packet while one waits at next */
+    EXPECT(jangsebit_keep(held.room, held.window, framed + 2, ADD, told) == JANGSEBIT_PAST_WINDOW && told[0] == 99);
+    add(framed, 265, "000000000020ZZ", 'B', 200, 1250000);
+    jangsebit_pass(held.room, held.window, framed + 2, ADD, told);
+    EXPECT(told[0] == JANGSEBIT_CARRIES && unchanged());
+
+    /* 11 and 12 follow, a copy of 12 differs, 14 has to wait for 13 */
+    add(packets, 11, "000000000020ZZ", 'B', 200, 1250000);
+    add(packets + FRAMED, 12, "000000000030ZZ", 'B', 900, 1240000);
+    add(packets + 2 * FRAMED, 12, "000000000030ZZ", 'B', 901, 1240000);
+    add(packets + 3 * FRAMED, 14, "000000000040ZZ", 'S', 700, 1260000);
+    memset(answers, STALE, sizeof answers);
+    taken = jsb_keep_burst(&held, packets, sizeof packets, answers, 0);
+    EXPECT(taken.packets == 0 && taken.bytes == 0);
+    taken = jsb_keep_burst(&held, packets, FRAMED - 1, answers, 5);
+    EXPECT(taken.packets == 0 && taken.bytes == 0);
+    EXPECT(unchanged() && all(answers, sizeof answers, STALE));
+    /* the last two are counts whose numbers are more than can be counted */
+    static const uint64_t counts[3] = {4, UINT64_MAX, UINT64_MAX / 4 + 1};
+    for (int k = 0; k < 3; k++) {
+        jangsebit_keep_packets(
+            held.room, held.window, packets, sizeof packets, counts[k], (uint64_t *)(void *)answers, 15, told);
+        EXPECT(told[0] == JANGSEBIT_LENT_TOO_SHORT && told[1] == 0 && told[2] == 0);
+        EXPECT(unchanged() && all(answers, sizeof answers, STALE));
+    }
+    taken = jsb_keep_burst(&held, packets, sizeof packets, answers, 5);
+    EXPECT(taken.packets == 4 && taken.bytes == sizeof packets);
+    EXPECT(answers[1].fresh == 1 && answers[1].refusal == 0 && answers[1].next == 10 && answers[1].end == 13);
+    EXPECT(answers[2].fresh == 0 && answers[2].refusal == JANGSEBIT_COPIES_DIFFER && answers[2].next == 10);
+    EXPECT(answers[3].fresh == 1 && answers[3].refusal == 0 && answers[3].next == 10 && answers[3].end == 15);
+    EXPECT(all(&answers[4], sizeof answers[4], STALE));
+
+    EXPECT(jsb_lowest(&held) == 13 && jsb_gap(&held, 0).start == 13 && jsb_gap(&held, 0).count == 1);
+    EXPECT(jsb_apply(&held, 1) == 1 && jsb_numbers(&held).next == 11 && jsb_numbers(&held).live == 1);
+    EXPECT(jsb_apply(&held, UINT64_MAX) == 2 && jsb_numbers(&held).next == 13 && jsb_numbers(&held).live == 3);
+    EXPECT(jsb_apply(&held, UINT64_MAX) == 0 && jsb_lowest(&held) == 13);
+    /* what was kept is taken along with what comes */
+    add(framed, 13, "000000000050ZZ", 'S', 100, 1260000);
+    EXPECT(jsb_keep(&held, framed + 2, ADD, &fresh) == JANGSEBIT_DONE && fresh == 1 && jsb_lowest(&held) == 15);
+    EXPECT(jsb_take(&held, framed + 2, ADD, &applied) == JANGSEBIT_DONE && applied == 2);
+    EXPECT(jsb_numbers(&held).next == 15 && jsb_numbers(&held).live == 5);
+}
+
 static void asking(void)
 {
     static const uint8_t request[JANGSEBIT_REQUEST] = {0, 12, 'r', 0, 0, 0, 14, 0, 0, 0, 1, 'Y'};
@@ -328,6 +396,7 @@ int main(void)
     bursts();
     asking();
     insides();
+    keeping();
     alone();
     EXPECT(strcmp(jsb_refusal_words(14), "a field breaks its rule") == 0);
     EXPECT(strcmp(jsb_refusal_words(15), "no refusal has this number") == 0);

@@ -38,9 +38,13 @@ use Rattle.book.proofs.asking.best.Reads as book-best
 use Rattle.session.proofs.state.Session.open.Reads as session-open
 use Rattle.session.proofs.packets.take.Reads as session-take
 use Rattle.session.proofs.packets.burst.Reads as session-burst
-use Rattle.session.proofs.passing.pass.Reads as session-pass
+use Rattle.session.proofs.packets.apply.Reads as session-apply
+use Rattle.session_keeping.proofs.keeping.keep.Reads as session-keep
+use Rattle.session_keeping.proofs.keeping.keep_burst.Reads as session-keep-burst
+use Rattle.session_keeping.proofs.passing.pass.Reads as session-pass
 use Rattle.session.proofs.asking.next.Reads as session-next
 use Rattle.session.proofs.asking.end.Reads as session-end
+use Rattle.session.proofs.asking.lowest.Reads as session-lowest
 use Rattle.session.proofs.asking.code.Reads as session-code
 use Rattle.session.proofs.asking.faults.Reads as session-faults
 use Rattle.session.proofs.asking.order.Reads as session-order
@@ -61,8 +65,12 @@ use Rattle.exports.proofs.jangsebit_inside.Reads as exports-inside
 use Rattle.exports.proofs.jangsebit_requests.Reads as exports-requests
 use Rattle.exports.proofs.jangsebit_gap.Reads as exports-gap
 use Rattle.exports.proofs.jangsebit_pass.Reads as exports-pass
+use Rattle.exports.proofs.jangsebit_keep.Reads as exports-keep
+use Rattle.exports.proofs.jangsebit_keep_packets.Reads as exports-keep-packets
+use Rattle.exports.proofs.jangsebit_lowest.Reads as exports-lowest
 use Rattle.exports.proofs.jangsebit_open as exports-open
 use Rattle.exports.proofs.jangsebit_packets as exports-packets
+use Rattle.exports.proofs.jangsebit_apply as exports-apply
 use Rattle.exports.proofs.jangsebit_order as exports-order
 use Rattle.exports.proofs.jangsebit_quotes as exports-quotes
 
@@ -190,6 +198,17 @@ pub record Sessions : Type 0 where
   -- with whatever session it is held
   pub session-pass-room : (κs : _) (a : _) (one other : _) (s t : _) → session-pass.Post κs a one s → session-pass.Post κs a other t → (session : Session) → Ruled (held session (now (a .0)) (now (a .1 .0))) → now (s .0) ≡ now (t .0)
   pub session-pass-window : (κs : _) (a : _) (one other : _) (s t : _) → session-pass.Post κs a one s → session-pass.Post κs a other t → (session : Session) → Ruled (held session (now (a .0)) (now (a .1 .0))) → now (s .1 .0) ≡ now (t .1 .0)
+  pub session-keep-once : Once session-keep.Post
+  pub session-keep-room : (κs : _) (a : _) (one other : _) (s t : _) → session-keep.Post κs a one s → session-keep.Post κs a other t → (session : Session) → Ruled (held session (now (a .0)) (now (a .1 .0))) → now (s .0) ≡ now (t .0)
+  pub session-keep-window : (κs : _) (a : _) (one other : _) (s t : _) → session-keep.Post κs a one s → session-keep.Post κs a other t → (session : Session) → Ruled (held session (now (a .0)) (now (a .1 .0))) → now (s .1 .0) ≡ now (t .1 .0)
+  pub session-keep-burst-once : Once session-keep-burst.Post
+  pub session-keep-burst-answers : Fixes session-keep-burst.Post (λ κs r s. now (s .1 .1 .1 .1 .0))
+  pub session-keep-burst-room : (κs : _) (a : _) (one other : _) (s t : _) → session-keep-burst.Post κs a one s → session-keep-burst.Post κs a other t → (session : Session) → Ruled (held session (now (a .0)) (now (a .1 .0))) → now (s .0) ≡ now (t .0)
+  pub session-keep-burst-window : (κs : _) (a : _) (one other : _) (s t : _) → session-keep-burst.Post κs a one s → session-keep-burst.Post κs a other t → (session : Session) → Ruled (held session (now (a .0)) (now (a .1 .0))) → now (s .1 .0) ≡ now (t .1 .0)
+  pub session-apply-once : Once session-apply.Post
+  pub session-apply-room : Fixes session-apply.Post (λ κs r s. now (s .1 .0))
+  pub session-apply-window : Fixes session-apply.Post (λ κs r s. now (s .1 .1 .0))
+  pub session-lowest-once : Once session-lowest.Post
   pub session-next-once : Once session-next.Post
   pub session-end-once : Once session-end.Post
   pub session-code-once : Once session-code.Post
@@ -217,6 +236,17 @@ sessions =
       session-pass-once = named (λ κs a r s p. p .0);
       session-pass-room = λ κs a one other s t p q session rule. room-of (once (p .1 .0 session rule) (q .1 .0 session rule));
       session-pass-window = λ κs a one other s t p q session rule. window-of (once (p .1 .0 session rule) (q .1 .0 session rule));
+      session-keep-once = named (λ κs a r s p. p .0);
+      session-keep-room = λ κs a one other s t p q session rule. room-of (once (p .1 .0 session rule) (q .1 .0 session rule));
+      session-keep-window = λ κs a one other s t p q session rule. window-of (once (p .1 .0 session rule) (q .1 .0 session rule));
+      session-keep-burst-once = λ κs a one other s t p q. λ i. record { count = once (p .0) (q .0) i; bytes = once (p .1 .0) (q .1 .0) i };
+      session-keep-burst-answers = named (λ κs a r s p. p .1 .1 .0);
+      session-keep-burst-room = λ κs a one other s t p q session rule. room-of (once (p .1 .1 .1 .0 session rule) (q .1 .1 .1 .0 session rule));
+      session-keep-burst-window = λ κs a one other s t p q session rule. window-of (once (p .1 .1 .1 .0 session rule) (q .1 .1 .1 .0 session rule));
+      session-apply-once = λ κs a one other s t p q. λ i. record { session = session-of (once (p .0) (q .0)) i; count = once (p .1 .0) (q .1 .0) i };
+      session-apply-room = named (λ κs a r s p. room-of (p .0));
+      session-apply-window = named (λ κs a r s p. window-of (p .0));
+      session-lowest-once = named (λ κs a r s p. p);
       session-next-once = named (λ κs a r s p. p);
       session-end-once = named (λ κs a r s p. p);
       session-code-once = named (λ κs a r s p. p);
@@ -259,6 +289,15 @@ pub record Exports : Type 0 where
   pub exports-pass-told : Fixes exports-pass.Post (λ κs r s. now (s .1 .1 .1 .0))
   pub exports-pass-room : (κs : _) (a : _) (one other : _) (s t : _) → exports-pass.Post κs a one s → exports-pass.Post κs a other t → (session : Session) → Ruled (held session (now (a .0)) (now (a .1 .0))) → now (s .0) ≡ now (t .0)
   pub exports-pass-window : (κs : _) (a : _) (one other : _) (s t : _) → exports-pass.Post κs a one s → exports-pass.Post κs a other t → (session : Session) → Ruled (held session (now (a .0)) (now (a .1 .0))) → now (s .1 .0) ≡ now (t .1 .0)
+  pub exports-keep-once : Once exports-keep.Post
+  pub exports-keep-told : Fixes exports-keep.Post (λ κs r s. now (s .1 .1 .1 .0))
+  pub exports-keep-room : (κs : _) (a : _) (one other : _) (s t : _) → exports-keep.Post κs a one s → exports-keep.Post κs a other t → (session : Session) → Ruled (held session (now (a .0)) (now (a .1 .0))) → now (s .0) ≡ now (t .0)
+  pub exports-keep-window : (κs : _) (a : _) (one other : _) (s t : _) → exports-keep.Post κs a one s → exports-keep.Post κs a other t → (session : Session) → Ruled (held session (now (a .0)) (now (a .1 .0))) → now (s .1 .0) ≡ now (t .1 .0)
+  pub exports-keep-packets-answers : Fixes exports-keep-packets.Post (λ κs r s. now (s .1 .1 .1 .1 .0))
+  pub exports-keep-packets-told : Fixes exports-keep-packets.Post (λ κs r s. now (s .1 .1 .1 .1 .1 .0))
+  pub exports-keep-packets-room : (κs : _) (a : _) (one other : _) (s t : _) → exports-keep-packets.Post κs a one s → exports-keep-packets.Post κs a other t → (session : Session) → Ruled (held session (now (a .0)) (now (a .1 .0))) → now (s .0) ≡ now (t .0)
+  pub exports-keep-packets-window : (κs : _) (a : _) (one other : _) (s t : _) → exports-keep-packets.Post κs a one s → exports-keep-packets.Post κs a other t → (session : Session) → Ruled (held session (now (a .0)) (now (a .1 .0))) → now (s .1 .0) ≡ now (t .1 .0)
+  pub exports-lowest-once : Once exports-lowest.Post
 
 pub exports : Exports
 exports =
@@ -290,9 +329,18 @@ exports =
       exports-pass-told = named (λ κs a r s p. p .0);
       exports-pass-room = λ κs a one other s t p q session rule. room-of (once (p .1 .0 session rule) (q .1 .0 session rule));
       exports-pass-window = λ κs a one other s t p q session rule. window-of (once (p .1 .0 session rule) (q .1 .0 session rule));
+      exports-keep-once = named (λ κs a r s p. p .0);
+      exports-keep-told = named (λ κs a r s p. p .1 .0);
+      exports-keep-room = λ κs a one other s t p q session rule. room-of (once (p .1 .1 .0 session rule) (q .1 .1 .0 session rule));
+      exports-keep-window = λ κs a one other s t p q session rule. window-of (once (p .1 .1 .0 session rule) (q .1 .1 .0 session rule));
+      exports-keep-packets-answers = named (λ κs a r s p. p .0);
+      exports-keep-packets-told = named (λ κs a r s p. p .1 .0);
+      exports-keep-packets-room = λ κs a one other s t p q session rule. room-of (once (p .1 .1 .0 session rule) (q .1 .1 .0 session rule));
+      exports-keep-packets-window = λ κs a one other s t p q session rule. window-of (once (p .1 .1 .0 session rule) (q .1 .1 .0 session rule));
+      exports-lowest-once = named (λ κs a r s p. p);
     }
 
--- the four that are lent the orders: their walks are by hand, and their clauses are told as the reader's are
+-- the five that are lent the orders: their walks are by hand, and their clauses are told as the reader's are
 
 abbrev order-refusal : (κs : _) (session : _) (room : _) (id : _) (told : _) (session′ : _) (room′ : _) (id′ : _) (told′ : _) (r : _) → Told (λ w. exports-order.ensures-refusal (w .𝓤) (w .H) κs (w .𝓖 .A) (w .𝓜 .mem) (w .𝓡 .run) session room id told session′ room′ id′ told′ r)
 order-refusal κs session room id told session′ room′ id′ told′ r = all-models _ (λ w. r-last _) (λ w. refl) (λ w. refl) (λ w. refl)
@@ -317,6 +365,15 @@ packets-answers κs session room window packets single count answers told sessio
 
 abbrev packets-told : (κs : _) (session : _) (room : _) (window : _) (packets : _) (single : _) (count : _) (answers : _) (told : _) (session′ : _) (room′ : _) (window′ : _) (packets′ : _) (single′ : _) (count′ : _) (answers′ : _) (told′ : _) (r : _) → Told (λ w. exports-packets.ensures-told (w .𝓤) (w .H) κs (w .𝓖 .A) (w .𝓜 .mem) (w .𝓡 .run) session room window packets single count answers told session′ room′ window′ packets′ single′ count′ answers′ told′ r)
 packets-told κs session room window packets single count answers told session′ room′ window′ packets′ single′ count′ answers′ told′ r = all-models _ (λ w. r-last _) (λ w. refl) (λ w. refl) (λ w. refl)
+
+abbrev apply-held : (κs : _) (session : _) (room : _) (window : _) (count : _) (session′ : _) (room′ : _) (window′ : _) (count′ : _) (r : _) → Told (λ w. exports-apply.ensures-applied (w .𝓤) (w .H) κs (w .𝓖 .A) (w .𝓜 .mem) (w .𝓡 .run) session room window count session′ room′ window′ count′ r)
+apply-held κs session room window count session′ room′ window′ count′ r = all-models _ (λ w. r-last _) (λ w. refl) (λ w. refl) (λ w. refl)
+
+abbrev apply-count : (κs : _) (session : _) (room : _) (window : _) (count : _) (session′ : _) (room′ : _) (window′ : _) (count′ : _) (r : _) → Told (λ w. exports-apply.ensures-count (w .𝓤) (w .H) κs (w .𝓖 .A) (w .𝓜 .mem) (w .𝓡 .run) session room window count session′ room′ window′ count′ r)
+apply-count κs session room window count session′ room′ window′ count′ r = all-models _ (λ w. r-last _) (λ w. refl) (λ w. refl) (λ w. refl)
+
+pub exports-apply-once : (κs : _) (session : _) (room : _) (window : _) (count : _) (session′ : _) (room′ : _) (window′ : _) (count′ : _) (one other : _) → AllOf (apply-count κs session room window count session′ room′ window′ count′ one .tells) → AllOf (apply-count κs session room window count session′ room′ window′ count′ other .tells) → one ≡ other
+exports-apply-once κs session room window count session′ room′ window′ count′ one other = once
 
 pub exports-order-once : (κs : _) (session : _) (room : _) (id : _) (told : _) (session′ : _) (room′ : _) (id′ : _) (told′ : _) (one other : _) → AllOf (order-refusal κs session room id told session′ room′ id′ told′ one .tells) → AllOf (order-refusal κs session room id told session′ room′ id′ told′ other .tells) → one ≡ other
 exports-order-once κs session room id told session′ room′ id′ told′ one other = once
@@ -353,3 +410,12 @@ exports-packets-room κs session room window packets single count answers told p
 
 pub exports-packets-window : (κs : _) (session : _) (room : _) (window : _) (packets : _) (single : _) (count : _) (answers : _) (told : _) (packets′ : _) (single′ : _) (count′ : _) (answers′ : _) (told′ : _) (session₁ : _) (room₁ : _) (window₁ : _) (session₂ : _) (room₂ : _) (window₂ : _) (r q : _) → AllOf (packets-held κs session room window packets single count answers told (record { entry = session; exit = session₁ }) (record { entry = room; exit = room₁ }) (record { entry = window; exit = window₁ }) packets′ single′ count′ answers′ told′ r .tells) → AllOf (packets-held κs session room window packets single count answers told (record { entry = session; exit = session₂ }) (record { entry = room; exit = room₂ }) (record { entry = window; exit = window₂ }) packets′ single′ count′ answers′ told′ q .tells) → now window₁ ≡ now window₂
 exports-packets-window κs session room window packets single count answers told packets′ single′ count′ answers′ told′ session₁ room₁ window₁ session₂ room₂ window₂ r q one other = window-of (once one other)
+
+pub exports-apply-session : (κs : _) (session : _) (room : _) (window : _) (count : _) (count′ : _) (session₁ : _) (room₁ : _) (window₁ : _) (session₂ : _) (room₂ : _) (window₂ : _) (r q : _) → AllOf (apply-held κs session room window count (record { entry = session; exit = session₁ }) (record { entry = room; exit = room₁ }) (record { entry = window; exit = window₁ }) count′ r .tells) → AllOf (apply-held κs session room window count (record { entry = session; exit = session₂ }) (record { entry = room; exit = room₂ }) (record { entry = window; exit = window₂ }) count′ q .tells) → now session₁ ≡ now session₂
+exports-apply-session κs session room window count count′ session₁ room₁ window₁ session₂ room₂ window₂ r q one other = session-of (once one other)
+
+pub exports-apply-room : (κs : _) (session : _) (room : _) (window : _) (count : _) (count′ : _) (session₁ : _) (room₁ : _) (window₁ : _) (session₂ : _) (room₂ : _) (window₂ : _) (r q : _) → AllOf (apply-held κs session room window count (record { entry = session; exit = session₁ }) (record { entry = room; exit = room₁ }) (record { entry = window; exit = window₁ }) count′ r .tells) → AllOf (apply-held κs session room window count (record { entry = session; exit = session₂ }) (record { entry = room; exit = room₂ }) (record { entry = window; exit = window₂ }) count′ q .tells) → now room₁ ≡ now room₂
+exports-apply-room κs session room window count count′ session₁ room₁ window₁ session₂ room₂ window₂ r q one other = room-of (once one other)
+
+pub exports-apply-window : (κs : _) (session : _) (room : _) (window : _) (count : _) (count′ : _) (session₁ : _) (room₁ : _) (window₁ : _) (session₂ : _) (room₂ : _) (window₂ : _) (r q : _) → AllOf (apply-held κs session room window count (record { entry = session; exit = session₁ }) (record { entry = room; exit = room₁ }) (record { entry = window; exit = window₁ }) count′ r .tells) → AllOf (apply-held κs session room window count (record { entry = session; exit = session₂ }) (record { entry = room; exit = room₂ }) (record { entry = window; exit = window₂ }) count′ q .tells) → now window₁ ≡ now window₂
+exports-apply-window κs session room window count count′ session₁ room₁ window₁ session₂ room₂ window₂ r q one other = window-of (once one other)

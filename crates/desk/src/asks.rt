@@ -38,6 +38,15 @@ pub fn state(room: &Room) {
     end();
 }
 
+// The lowest number not carried.
+pub fn lowest(room: &Room, window: &Window)
+    requires { ⌜ ((session : Table) × Ruled (held session (now room) (now window))) ⌝ }
+{
+    put(b"lowest");
+    number(asking::lowest(room, window));
+    end();
+}
+
 fn faults(faults: Faults) {
     number(faults.count);
     if faults.count != 0 {

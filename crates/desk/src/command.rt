@@ -2,13 +2,16 @@
 use text::words;
 ghost use mathlib.Core.Path.{_≡_};
 ghost use Rattle.text.specs.Words.{countOf, wordOf};
-ghost use Rattle.desk.specs.Commands.{bytesCommand, commandOf, isName, namedOf, oneCommand};
+ghost use Rattle.desk.specs.Commands.{bareCommand, bytesCommand, commandOf, isName, namedOf, oneCommand, twoCommand};
 
 pub enum Command {
     Bad,
     Open,
     Take,
+    Keep,
+    Apply,
     State,
+    Lowest,
     Order,
     Best,
     Inside,
@@ -26,8 +29,8 @@ pub fn command_of(line: &[u8]) -> Command
 {
     let word = words::word(line, 0);
     match words::count(line) {
-        1 => named(word, b"state", Command::State),
-        2 => one_command(word),
+        1 => bare_command(word),
+        2 => two_command(word),
         3 => named(word, b"best", Command::Best),
         4 => named(word, b"rewrite", Command::Rewrite),
         7 => named(word, b"rehead", Command::Rehead),
@@ -50,7 +53,29 @@ fn named(word: &[u8], name: &[u8], command: Command) -> Command
     Command::Bad
 }
 
-// The commands of one word more.
+// The commands of one word.
+fn bare_command(word: &[u8]) -> Command
+    ensures { λ r. ⌜ r ≡ bareCommand (now (word .entry)) ⌝ }
+{
+    if is_name(word, b"state") {
+        return Command::State;
+    }
+    named(word, b"lowest", Command::Lowest)
+}
+
+// Those of two: keeping and applying, each by itself, and the others.
+fn two_command(word: &[u8]) -> Command
+    ensures { λ r. ⌜ r ≡ twoCommand (now (word .entry)) ⌝ }
+{
+    if is_name(word, b"keep") {
+        return Command::Keep;
+    }
+    if is_name(word, b"apply") {
+        return Command::Apply;
+    }
+    one_command(word)
+}
+
 fn one_command(word: &[u8]) -> Command
     ensures { λ r. ⌜ r ≡ oneCommand (now (word .entry)) ⌝ }
 {

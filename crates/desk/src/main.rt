@@ -20,6 +20,7 @@ fn ask(session: Session, room: &Room, window: &Window, command: Command, line: &
 {
     match command {
         Command::State => asks::state(room),
+        Command::Lowest => asks::lowest(room, window),
         Command::Order => asks::order(session, room, line),
         Command::Best => asks::best(session, room, line),
         Command::Inside => asks::inside(room, line),
@@ -50,6 +51,8 @@ fn carry_out(session: Session, room: &mut Room, window: &mut Window, line: &[u8]
     match command {
         Command::Open => moves::open(session, room, window, line),
         Command::Take => moves::take(session, room, window, line),
+        Command::Keep => moves::keep(session, room, window, line),
+        Command::Apply => moves::apply(session, room, window, line),
         _ => {
             ask(session, room, window, command, line);
             session

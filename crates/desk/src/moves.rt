@@ -1,4 +1,4 @@
-// The commands that change the session: open, take.
+// The commands that change the session: open, take, keep, apply.
 use crate::reads;
 use crate::reads::bad;
 use book_room::room::Room;
@@ -9,6 +9,8 @@ use printing::words::put;
 use session::packets;
 use session::packets::Answer;
 use session::state::Session;
+use session_keeping::keeping;
+use session_keeping::keeping::Kept;
 use text::hex;
 use text::number::parse;
 use text::words::word;
@@ -48,10 +50,49 @@ pub fn take(session: Session, room: &mut Room, window: &mut Window, line: &[u8])
 fn taken_with(answer: Answer) {
     match answer {
         Answer::Refused(number) => refused(number),
-        Answer::Applied(count) => {
-            put(b"ok");
-            number(count);
-            end();
-        }
+        Answer::Applied(count) => told(b"ok", count),
     }
+}
+
+pub fn keep(session: Session, room: &mut Room, window: &mut Window, line: &[u8]) -> Session
+    requires { ⌜ Ruled (held session (now room) (now window)) ⌝ }
+    ensures { λ r. ⌜ Ruled (held r (now (room .exit)) (now (window .exit))) ⌝ }
+{
+    let mut lent = [0u8; reads::LENT];
+    let got = hex::parse(word(line, 1), &mut lent);
+    if !got.good {
+        bad();
+        return session;
+    }
+    let count = got.count;
+    kept_with(keeping::keep(room, window, &lent[0..count]));
+    session
+}
+
+fn kept_with(kept: Kept) {
+    match kept {
+        Kept::Refused(number) => refused(number),
+        Kept::Fresh(count) => told(b"kept", count),
+    }
+}
+
+pub fn apply(session: Session, room: &mut Room, window: &mut Window, line: &[u8]) -> Session
+    requires { ⌜ Ruled (held session (now room) (now window)) ⌝ }
+    ensures { λ r. ⌜ Ruled (held r (now (room .exit)) (now (window .exit))) ⌝ }
+{
+    let count = parse(word(line, 1), u64::MAX);
+    if !count.good {
+        bad();
+        return session;
+    }
+    let done = packets::apply(session, room, window, count.value);
+    told(b"applied", done.count);
+    done.session
+}
+
+// A word and a number, as a line.
+fn told(name: &[u8], count: u64) {
+    put(name);
+    number(count);
+    end();
 }

@@ -15,9 +15,12 @@ use printing::words::small;
 use session::asking;
 use session::packets::Answer;
 use session::state::Session;
+use session_keeping::keeping::Kept;
+use window::places::Window;
 ghost use Prim.Native.Nat.{ℕ};
 ghost use mathlib.Core.List.{List};
 ghost use Rattle.session.specs.Meaning.{held, Ruled};
+ghost use Rattle.session.specs.declared.state.Session.{Session as Table};
 
 // The answer to a packet, then next and end.
 pub fn taken(label: &[u8], room: &Room, said: Answer) {
@@ -30,19 +33,50 @@ pub fn taken(label: &[u8], room: &Room, said: Answer) {
 
 fn answer(answer: Answer) {
     match answer {
-        Answer::Applied(count) => {
-            put(b"applied");
-            number(count);
-        }
+        Answer::Applied(count) => told(b"applied", count),
         Answer::Refused(number) => refusal(number),
     }
 }
 
+fn told(name: &[u8], count: u64) {
+    put(name);
+    number(count);
+}
+
+// The answer to a packet that is kept, then next, end and lowest.
+pub fn kept(label: &[u8], room: &Room, window: &Window, said: Kept)
+    requires { ⌜ ((session : Table) × Ruled (held session (now room) (now window))) ⌝ }
+{
+    put(label);
+    colon();
+    match said {
+        Kept::Fresh(count) => told(b"kept", count),
+        Kept::Refused(number) => refusal(number),
+    }
+    waiting(room, window);
+}
+
+// How many were applied of those that waited, then the same.
+pub fn applied(label: &[u8], room: &Room, window: &Window, count: u64)
+    requires { ⌜ ((session : Table) × Ruled (held session (now room) (now window))) ⌝ }
+{
+    put(label);
+    colon();
+    told(b"applied", count);
+    waiting(room, window);
+}
+
+fn waiting(room: &Room, window: &Window)
+    requires { ⌜ ((session : Table) × Ruled (held session (now room) (now window))) ⌝ }
+{
+    numbers(room);
+    told(b", lowest", asking::lowest(room, window));
+    end();
+}
+
 pub fn numbers(room: &Room) {
-    put(b", next");
-    number(asking::next(room));
-    put(b", end");
-    number(asking::end(room));
+    told(b", next", asking::next(room));
+    told(b", end", asking::end(room));
 }
 
 // What the tables say: faults, the first order, the best bid and ask, the first inside.
@@ -118,6 +152,12 @@ fn inside(answer: InsideReply) {
 }
 
 pub fn code(room: &Room) {
-    put(b": code");
-    number(asking::code(room));
+    told(b": code", asking::code(room));
+}
+
+// The lowest number not carried.
+pub fn lowest(room: &Room, window: &Window)
+    requires { ⌜ ((session : Table) × Ruled (held session (now room) (now window))) ⌝ }
+{
+    told(b": lowest", asking::lowest(room, window));
 }

@@ -103,7 +103,7 @@ fn trading(code: u8) -> Message
 }
 
 // A message that is not written: nothing more.
-fn none() -> Message
+pub fn none() -> Message
     ensures { λ r. ⌜ r ≡ noMessage ⌝ }
 {
     named(0, Body::Other(0))
@@ -158,7 +158,7 @@ fn behind(buf: &mut [u8], at: usize, m: Message) -> usize
     at
 }
 
-fn head(buf: &mut [u8], size: usize, seq: u32, flag: u8, messages: u8) {
+pub fn head(buf: &mut [u8], size: usize, seq: u32, flag: u8, messages: u8) {
     let header = Header {
         size: (size % 65536) as u16,
         seq,
@@ -171,7 +171,7 @@ fn head(buf: &mut [u8], size: usize, seq: u32, flag: u8, messages: u8) {
 
 // A packet of two messages, the first under the number `seq`, or of one where the second is not
 // written; how many bytes it has.
-fn packet_of(buf: &mut [u8], seq: u32, first: Message, second: Message) -> usize
+pub fn packet_of(buf: &mut [u8], seq: u32, first: Message, second: Message) -> usize
     requires { ⌜ 12 ≤ length (now buf) ⌝ }
     ensures { λ r. ⌜ r ≤ length (now (buf .entry)) ⌝ }
 {
@@ -271,7 +271,7 @@ fn then(session: Session, room: &mut Room, window: &mut Window, seq: u32, m: Mes
     taken.session
 }
 
-fn nth(kind: u8, k: u16) -> Message {
+pub fn nth(kind: u8, k: u16) -> Message {
     if kind == b'a' {
         add(k, b'B', 300, 1250000)
     } else {

@@ -2,8 +2,10 @@
 // what is lent, and what the library answers.
 mod answers;
 mod bursts;
+mod keeping;
 mod made;
 mod sessions;
+mod waiting;
 
 fn main() {
     examples_cases::ids::run();
@@ -12,6 +14,7 @@ fn main() {
     examples_cases::sweeps::run();
     examples_cases::writes::run();
     sessions::run();
+    waiting::run();
     bursts::run();
     examples_cases::walks::run();
 }

@@ -2,6 +2,7 @@
 // asked for again. A line goes on with the session that the line before it left, and one with no label
 // prints nothing.
 use crate::answers;
+use crate::keeping;
 use crate::made;
 use crate::made::told;
 use book_room::room::Room;
@@ -209,7 +210,7 @@ fn missing() {
 }
 
 // Each line in turn.
-fn lines(table: &[u8]) {
+pub fn lines(table: &[u8]) {
     let mut room = [0u64; Session::ROOM];
     let mut window = [0u8; Session::PLACES];
     let mut session = Session::open(0, &mut room, &mut window);
@@ -221,7 +222,7 @@ fn lines(table: &[u8]) {
     }
 }
 
-// By the first letter: open, fill, a packet, or a question.
+// By the first letter: open, fill, a packet, what is kept and applied, or a question.
 fn step(session: Session, room: &mut Room, window: &mut Window, line: &[u8]) -> Session
     requires { ⌜ Ruled (held session (now room) (now window)) ⌝ }
     ensures { λ r. ⌜ Ruled (held r (now (room .exit)) (now (window .exit))) ⌝ }
@@ -231,6 +232,7 @@ fn step(session: Session, room: &mut Room, window: &mut Window, line: &[u8]) -> 
         b'o' => made::fresh(room, window, n),
         b'f' => filled(room, window, n, line),
         b't' | b'd' | b'b' => took(session, room, window, n, line),
+        b'k' | b'q' | b'a' => keeping::step(session, room, window, n, line),
         _ => {
             question(session, room, window, line);
             session
@@ -290,7 +292,7 @@ fn damaged(session: Session, room: &mut Room, window: &mut Window, seq: u32, lin
     made::damaged(session, room, window, seq, told(line, 4), at, byte)
 }
 
-// By the first letter: gap, write the requests, report, code.
+// By the first letter: gap, write the requests, report, lowest, code.
 fn question(session: Session, room: &Room, window: &Window, line: &[u8])
     requires { ⌜ Ruled (held session (now room) (now window)) ⌝ }
 {
@@ -299,6 +301,7 @@ fn question(session: Session, room: &Room, window: &Window, line: &[u8])
         b'g' => gap(room, window, number(line, 1)),
         b'w' => requests(room, window, rows::place(line, 1)),
         b'r' => answers::report(session, room),
+        b'l' => answers::lowest(room, window),
         _ => answers::code(room),
     }
     end();

@@ -10,9 +10,9 @@ use lib.Dec.{eqb, leb, ltb}
 use lib.ListN.{length}
 use Rattle.wire.specs.Number.{splice}
 use Rattle.wire.proofs.Place.{splice-none}
-use Rattle.merge.specs.State.{takeAll}
+use Rattle.merge.specs.State.{applyUpTo, takeAll}
 use Rattle.window_taking.specs.Turns.{endFrom, packetsFrom, packetsIn}
-use Rattle.session.specs.Meaning.{Held, Meaning, overnight, rep}
+use Rattle.session.specs.Meaning.{Held, Meaning, feed, overnight, rep}
 use Rattle.session.specs.Bursts.{rowsOf}
 use Rattle.session.proofs.Calls.{chosen, one-packet, short}
 use Rattle.exports.specs.Handed.{answersBy, bytesBy, mostBy, packetsBy, shortBy, takenBy, takenTold}
@@ -58,14 +58,14 @@ module _ (x : Meaning) (single count : ℕ) (s answers : List ℕ) {one : Bool} 
   end : endFrom one most 0 s ≡ bytesBy single count s
   end = (λ i. endFrom (kind i) (mosts i) 0 s) ∙ end-by count s (eqb single 0)
 
-  pub taken-all : {after : Held} → after ≡ rep (takeAll overnight x (packetsFrom one due 0 s)) → after ≡ rep (takenBy x single count s (length answers))
-  unfolding takenBy takeAll packetsFrom
+  pub taken-all : {after : Held} → after ≡ rep (takeAll overnight (applyUpTo feed 0 x) (packetsFrom one due 0 s)) → after ≡ rep (takenBy x single count s (length answers))
+  unfolding takenBy takeAll packetsFrom applyUpTo
   taken-all e =
       e ∙ ap rep (by-room (λ (n : ℕ). takeAll overnight x (packetsFrom one n 0 s)) refl)
       ∙ ap (λ (ps : List (List ℕ)). rep (cond (shortBy single count (length answers)) x (takeAll overnight x ps))) all
 
-  pub rows-all : {after : List ℕ} → after ≡ splice answers 0 (rowsOf x (packetsFrom one due 0 s)) → after ≡ answersBy x single count s answers
-  unfolding answersBy rowsOf packetsFrom
+  pub rows-all : {after : List ℕ} → after ≡ splice answers 0 (rowsOf (applyUpTo feed 0 x) (packetsFrom one due 0 s)) → after ≡ answersBy x single count s answers
+  unfolding answersBy rowsOf packetsFrom applyUpTo
   rows-all e =
       e ∙ by-room (λ (n : ℕ). splice answers 0 (rowsOf x (packetsFrom one n 0 s))) (splice-none answers 0)
       ∙ ap (λ (ps : List (List ℕ)). cond (shortBy single count (length answers)) answers (splice answers 0 (rowsOf x ps))) all

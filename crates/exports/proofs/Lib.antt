@@ -2,3 +2,4 @@
 pub mod Told
 pub mod OrderPlaces
 pub mod Handed
+pub mod Engine

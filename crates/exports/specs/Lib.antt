@@ -2,5 +2,7 @@
 pub mod Told
 pub mod OrderPlaces
 pub mod Handed
+pub mod Applied
+pub mod Kept
 pub mod Passed
 pub mod Sizes

@@ -2,11 +2,11 @@
 -- Assumes nothing.
 use mathlib.Core.List.{List, [], _∷_}
 use Prim.Native.Nat.{ℕ}
-use Rattle.session.specs.declared.passing.Passed.{Passed}
-use Rattle.session.specs.declared.passing.Passed.the-variants.{Carries, Kept, Refused}
+use Rattle.session_keeping.specs.declared.passing.Passed.{Passed}
+use Rattle.session_keeping.specs.declared.passing.Passed.the-variants.{Applies, Kept, Refused}
 
--- 0 where it carries next, 1 where it was kept, 2 where it was refused; and the refusal
+-- 0 where taking it may apply a message, 1 where it was kept, 2 where it was refused; and the refusal
 abbrev pub passNumbers : Passed → List ℕ
-passNumbers Carries = 0 ∷ 0 ∷ []
+passNumbers Applies = 0 ∷ 0 ∷ []
 passNumbers Kept = 1 ∷ 0 ∷ []
 passNumbers (Refused number) = 2 ∷ number ∷ []

@@ -21,7 +21,7 @@ ghost use Rattle.window.specs.Runs.{askedOf, bufferAfter};
 ghost use Rattle.book.specs.Asking.{insideFor};
 ghost use Rattle.book_room.specs.Room.{insidesIn};
 ghost use Rattle.session.specs.Meaning.{held, Ruled};
-ghost use Rattle.session.specs.Asking.{gapFrom, gapsOf, lineIn};
+ghost use Rattle.session.specs.Asking.{gapFrom, gapsOf, lineIn, lowestNumber};
 ghost use Rattle.session.specs.Quoting.{refusalIn};
 ghost use Rattle.session.specs.declared.state.Session.{Session as Table};
 ghost use Rattle.single.specs.Over.{over};
@@ -48,6 +48,15 @@ pub extern "C" fn jangsebit_numbers(room: &Room, told: &mut [u64; 8])
     told[5] = faults.number;
     told[6] = faults.count;
     told[7] = faults.reason;
+}
+
+// The lowest number that no accepted packet has carried.
+#[no_mangle]
+pub extern "C" fn jangsebit_lowest(room: &Room, window: &Window) -> u64
+    requires { ⌜ ((session : Table) × Ruled (held session (now room) (now window))) ⌝ }
+    ensures { λ r. ⌜ r ≡ lowestNumber (lineIn (now (room .entry)) (now (window .entry))) ⌝ }
+{
+    session::asking::lowest(room, window)
 }
 
 fn firm_of(firm: [u8; 4]) -> u64

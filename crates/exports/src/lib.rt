@@ -1,7 +1,9 @@
 // Exports for C and Rust. Most are over one session that the host holds: the orders, and beside them the room and
 // the window, which it lends with each call. Told numbers go into lists that are lent too.
 mod alone;
+mod applying;
 mod asking;
+mod keeping;
 mod passing;
 mod sizes;
 mod taking;
@@ -15,9 +17,12 @@ pub use alone::jangsebit_write_header;
 pub use alone::jangsebit_write_message;
 pub use asking::jangsebit_gap;
 pub use asking::jangsebit_inside;
+pub use asking::jangsebit_lowest;
 pub use asking::jangsebit_numbers;
 pub use asking::jangsebit_requests;
 use book_room::room::Room;
+pub use keeping::jangsebit_keep;
+pub use keeping::jangsebit_keep_packets;
 pub use passing::jangsebit_pass;
 use session::state::Session;
 pub use sizes::jangsebit_sizes;
@@ -26,8 +31,9 @@ ghost use mathlib.Core.Path.{_≡_};
 ghost use Prim.Native.Nat.{ℕ};
 ghost use mathlib.Core.List.{List};
 ghost use lib.ListN.{length};
-ghost use Rattle.merge.specs.State.{opened};
-ghost use Rattle.session.specs.Meaning.{feed, held, rep, tablesIn, view, Ruled, Sized};
+ghost use Rattle.merge.specs.State.{applySome, opened};
+ghost use Rattle.session.specs.Meaning.{feed, held, overnight, rep, tablesIn, view, Ruled, Sized};
+ghost use Rattle.session.specs.Bursts.{appliedBy};
 ghost use Rattle.book.specs.Asking.{orderAsked};
 ghost use Rattle.exports.specs.Handed.{answersBy, takenBy, takenTold};
 ghost use Rattle.session.specs.Quoting.{quotedOf, quotesAfter, refusalIn};
@@ -36,9 +42,9 @@ ghost use Rattle.exports.specs.Told.{orderTold};
 // The version of these exports.
 #[no_mangle]
 pub extern "C" fn jangsebit_version() -> u32
-    ensures { λ r. ⌜ r ≡ 1 ⌝ }
+    ensures { λ r. ⌜ r ≡ 2 ⌝ }
 {
-    1
+    2
 }
 
 // A fresh session for an opening number. Whatever stood in the three is gone.
@@ -78,8 +84,46 @@ pub extern "C" fn jangsebit_packets(
     ensures rule { λ _. ⌜ Ruled (held (now (session .exit)) (now (room .exit)) (now (window .exit))) ⌝ }
 {
     let plan = taking::make_plan(single, count, answers.len());
-    let ended = session_lent::run(session, room, window, packets, plan.one, plan.due, answers);
+    let ended = session_lent::run(
+        session,
+        room,
+        window,
+        packets,
+        plan.one,
+        plan.due,
+        answers,
+        0,
+    );
     taking::tell(told, plan.fits, ended);
+}
+
+// Applies up to so many of the messages that wait from next on, in their order. The answer is how many.
+#[no_mangle]
+pub extern "C" fn jangsebit_apply(
+    session: &mut Session,
+    room: &mut Room,
+    window: &mut Window,
+    count: u64,
+) -> u64
+    requires { ⌜ Ruled (held (now session) (now room) (now window)) ⌝ }
+    ensures applied { λ _. ⌜ held (now (session .exit)) (now (room .exit)) (now (window .exit)) ≡ rep (applySome overnight count (view (held (now (session .entry)) (now (room .entry)) (now (window .entry))))) ⌝ }
+    ensures count { λ r. ⌜ r ≡ appliedBy (view (held (now (session .entry)) (now (room .entry)) (now (window .entry)))) count ⌝ }
+    ensures rule { λ _. ⌜ Ruled (held (now (session .exit)) (now (room .exit)) (now (window .exit))) ⌝ }
+{
+    let packets = [0u8; 0];
+    let mut answers = [0u64; 0];
+    let start = applying::begin(room, count);
+    session_lent::run(
+        session,
+        room,
+        window,
+        &packets,
+        false,
+        0,
+        &mut answers,
+        start.due,
+    );
+    applying::applied_since(room, start.next)
 }
 
 // The live order of an id: the id's value, price, shares, firm, the symbol's first eight bytes and its last eight as

@@ -1,7 +1,7 @@
 -- What demand 3 means for hosts: the lines' losses, cuts and order leave no trace.
 -- Assumes nothing.
 use Prim.Native.Nat.{ℕ, _≤_, _<_}
-use mathlib.Core.Path.{_≡_, sym, ap, _∙_, subst}
+use mathlib.Core.Path.{_≡_, sym, ap, _∙_}
 use mathlib.Core.List.{List}
 use mathlib.Core.Option.{Option, some}
 use Rattle.merge.specs.State.{Feed, Packet, State}
@@ -24,13 +24,14 @@ module _ {Msg Table : Type 0} {feed : Feed Msg Table} {s : ℕ} {g h : List (Pac
   -- Two hosts with one opening and one next, and the same first copy of each number below it, hold equal tables.
   pub hosts-agree : x .next ≡ y .next → ((k : ℕ) → s ≤ k → k < x .next → firstCopy g k ≡ firstCopy h k) → x .tables ≡ y .tables
   hosts-agree at same =
-      one .tables (x .next) (one .lowest)
+      one .tables
       ∙ tables-agree feed s (x .next) g h same
-      ∙ sym (other .tables (x .next) (subst (Lowest s h) (sym at) (other .lowest)))
+      ∙ ap (λ (n : ℕ). tablesOf feed s n h) at
+      ∙ sym (other .tables)
 
-  -- If they accepted the same first copies throughout, they have come equally far.
-  pub hosts-meet : ((k : ℕ) → s ≤ k → firstCopy g k ≡ firstCopy h k) → x .next ≡ y .next
-  hosts-meet same = lowest-unique (lowest-copies same (one .lowest)) (other .lowest)
+  -- If they accepted the same first copies throughout and both applied to the end, they have come equally far.
+  pub hosts-meet : ((k : ℕ) → s ≤ k → firstCopy g k ≡ firstCopy h k) → Lowest s g (x .next) → Lowest s h (y .next) → x .next ≡ y .next
+  hosts-meet same low low′ = lowest-unique (lowest-copies same low) low′
 
 module _ {Msg Table : Type 0} (feed : Feed Msg Table) (sent : ℕ → Msg) {s : ℕ} {h : List (Packet Msg)} (genuine : Genuine sent h) where
   -- Once each number from s to m - 1 was carried, their tables are those of what was sent.
@@ -42,4 +43,4 @@ module _ {Msg Table : Type 0} (feed : Feed Msg Table) (sent : ℕ → Msg) {s : 
       c .1 ∙ ap {B = Option Msg} some (genuine k (c .0) (c .1))
 
   pub host-sent : {x : State Msg Table} → Demand3 feed s h x → x .tables ≡ sentTables feed sent s (x .next)
-  host-sent {x} one = one .tables (x .next) (one .lowest) ∙ range-sent (x .next) (one .lowest .carried)
+  host-sent {x} one = one .tables ∙ range-sent (x .next) (one .carried)

@@ -1,17 +1,19 @@
 -- The lowest number not carried: there is one only, next never stands above it, and applying comes as near to it as its count allows.
 -- Assumes nothing.
-use Prim.Native.Nat.{ℕ, zero, suc, _+_, _-_, _≤_, _<_}
-use native.Mathlib.Decide.{decLt}
+use Prim.Native.Nat.{ℕ, zero, suc, _+_, _-_, _≤_, _<_, min}
+use native.Mathlib.Decide.{decLe, decLt}
 use native.Mathlib.Omega.{arith}
 use mathlib.Core.Path.{_≡_, refl, sym, ap, _∙_, subst}
 use mathlib.Core.List.{List, [], _∷_, _++_}
 use mathlib.Core.Logic.{by-cases}
+use mathlib.Core.Bool.{Bool, true, false, cond}
 use mathlib.Core.Option.{Option, none, some}
-use Rattle.merge.specs.State.{Feed, Packet, State, endOf, keep, step, applyUpTo}
+use Rattle.merge.specs.State.{Feed, Packet, State, endOf, keep, step, applyUpTo, isThere, lowestFrom, lowestIn}
 use Rattle.merge.specs.History.{Carried, Lowest}
 use Rattle.merge.specs.Promise.{Inv, Fits}
-use Rattle.merge.proofs.Copies.{told-no, told-none, first-told, carried-last}
+use Rattle.merge.proofs.Copies.{chosen, told-no, told-none, told-yes, first-told, carried-last}
 use Rattle.merge.proofs.Rule.{keep-inv, apply-inv}
+use Rattle.merge.proofs.Window.{waits-carried, waits-where}
 
 module _ {Msg : Type 0} {s : ℕ} {h : List (Packet Msg)} where
   -- From s on all numbers below n were carried, and m was not: n is at most m.
@@ -93,3 +95,115 @@ module _ {Msg Table : Type 0} {feed : Feed Msg Table} {W s : ℕ} {h : List (Pac
       by-cases (decLt n (endOf p))
       (λ l. absurd (low .missing (carried-last h record { low = omega arith; high = l })))
       (λ l. omega arith)
+
+module _ {Msg Table : Type 0} (feed : Feed Msg Table) where
+  -- Applying in two parts is applying once.
+  pub apply-more : (c d : ℕ) (x : State Msg Table) → applyUpTo feed (c + d) x ≡ applyUpTo feed d (applyUpTo feed c x)
+  unfolding applyUpTo
+  apply-more zero d x = let e : 0 + d ≡ d = omega arith in ap (λ (n : ℕ). applyUpTo feed n x) e
+  apply-more (suc c) d x =
+      let e : suc c + d ≡ suc (c + d) = omega arith in
+      ap (λ (n : ℕ). applyUpTo feed n x) e ∙ apply-more c d (step feed x (x .waiting (x .next)))
+
+  -- A count leaves nothing that could be applied.
+  abbrev pub Settles : ℕ → State Msg Table → Type 0
+  Settles c x = (applyUpTo feed c x) .waiting ((applyUpTo feed c x) .next) ≡ none
+
+  -- A count that does is as good as any larger one.
+  pub apply-enough : (c most : ℕ) (x : State Msg Table) → Settles most x → applyUpTo feed (min c most) x ≡ applyUpTo feed c x
+  apply-enough c most x settles =
+      by-cases (decLe c most)
+      (λ l. let e : min c most ≡ c = omega arith in ap (λ (n : ℕ). applyUpTo feed n x) e)
+      (λ l.
+      let e : min c most ≡ most = omega arith in
+      let f : c ≡ most + (c - most) = omega arith in
+      ap (λ (n : ℕ). applyUpTo feed n x) e
+      ∙ sym (ap (λ (n : ℕ). applyUpTo feed n x) f ∙ apply-more most (c - most) x ∙ stuck feed (c - most) settles))
+
+module _ {Msg Table : Type 0} {feed : Feed Msg Table} {W s : ℕ} {h : List (Packet Msg)} {x : State Msg Table} (inv : Inv feed W s h x) where
+  -- What waits lies below end, so a count that reaches end leaves nothing that could be applied.
+  pub reach-settles : (c : ℕ) → x .end ≤ x .next + c → Settles feed c x
+  reach-settles c far = go (went feed c x)
+    where
+      y : State Msg Table
+      y = applyUpTo feed c x
+
+      after : Inv feed W s h y
+      after = apply-inv feed W s c inv
+
+      none-there : (o : Option Msg) → ((m : Msg) → o ≡ some m → ⊥) → o ≡ none
+      none-there none never = refl
+      none-there (some m) never = absurd (never m refl)
+
+      go : Went c x y → y .waiting (y .next) ≡ none
+      go (stopped lo hi e) = e
+      go (all e) = none-there (y .waiting (y .next)) (λ m w. omega (arith, waits-where after (y .next) w .known, after .end, inv .end))
+
+  -- Applying moves next by the smaller of its count and what is left up to the lowest number not carried.
+  pub apply-moves : (c : ℕ) {n : ℕ} → Lowest s h n → (applyUpTo feed c x) .next ≡ x .next + min c (n - x .next)
+  apply-moves c {n} low = go (went feed c x)
+    where
+      y : State Msg Table
+      y = applyUpTo feed c x
+
+      after : Inv feed W s h y
+      after = apply-inv feed W s c inv
+
+      go : Went c x y → y .next ≡ x .next + min c (n - x .next)
+      go (all e) = omega (arith, next-below after low)
+      go (stopped lo hi e) = omega (arith, lowest-unique (stuck-lowest after e) low)
+
+module _ {Msg : Type 0} where
+  there-some : (o : Option Msg) → isThere o ≡ true → (m : Msg) × (o ≡ some m)
+  there-some none e = absurd (omega (arith, ap {B = ℕ} (λ (b : Bool). cond b 1 0) e))
+  there-some (some m) e = (m, refl)
+
+  there-none : (o : Option Msg) → isThere o ≡ false → o ≡ none
+  there-none none e = refl
+  there-none (some m) e = absurd (omega (arith, ap {B = ℕ} (λ (b : Bool). cond b 1 0) e))
+
+  -- Where the look for a number that does not wait has ended.
+  record Looked (waiting : ℕ → Option Msg) (k c r : ℕ) : Type 0 where
+    low : k ≤ r
+    high : r ≤ k + c
+    waits : (j : ℕ) → k ≤ j → j < r → (m : Msg) × (waiting j ≡ some m)
+    free : r < k + c → waiting r ≡ none
+
+  looked : (waiting : ℕ → Option Msg) (k c : ℕ) → Looked waiting k c (lowestFrom waiting k c)
+  unfolding lowestFrom
+  looked waiting k zero = record { low = omega arith; high = omega arith; waits = λ j lo hi. absurd (omega arith); free = λ l. absurd (omega arith) }
+  looked waiting k (suc c) = go (isThere (waiting k)) refl (looked waiting (k + 1) c)
+    where
+      go : (b : Bool) → isThere (waiting k) ≡ b → Looked waiting (k + 1) c (lowestFrom waiting (k + 1) c) → Looked waiting k (suc c) (cond b (lowestFrom waiting (k + 1) c) k)
+      go true e more =
+          record {
+            low = omega (arith, more .low);
+            high = omega (arith, more .high);
+            waits = λ j lo hi.
+                by-cases (decLt k j)
+                (λ l. more .waits j (omega arith) hi)
+                (λ l. let at : k ≡ j = omega arith in subst (λ (i : ℕ). (m : Msg) × (waiting i ≡ some m)) at (there-some (waiting k) e));
+            free = λ l. more .free (omega arith);
+          }
+      go false e more = record { low = omega arith; high = omega arith; waits = λ j lo hi. absurd (omega arith); free = λ l. there-none (waiting k) e }
+
+module _ {Msg Table : Type 0} {feed : Feed Msg Table} {W s : ℕ} {h : List (Packet Msg)} {x : State Msg Table} (inv : Inv feed W s h x) where
+  -- The first number from next on that does not wait is the lowest that was not carried.
+  pub lowest-in : Lowest s h (lowestIn W x)
+  unfolding lowestIn
+  lowest-in =
+      let n = lowestFrom (x .waiting) (x .next) W in
+      let to = looked (x .waiting) (x .next) W in
+      let free : x .waiting n ≡ none = by-cases (decLt n (x .next + W)) (λ l. to .free l) (λ l. inv .near n (omega arith)) in
+      record {
+        from = omega (arith, inv .from, to .low);
+        carried = λ k lo hi.
+            by-cases (decLt k (x .next))
+            (λ l. inv .passed k lo l)
+            (λ l. told-yes (waits-carried inv k (omega arith)) (to .waits k (omega arith) hi .1));
+        missing = told-no (waits-carried inv n (to .low)) free;
+      }
+
+  -- So taken to the end, next is that number.
+  pub apply-reaches : (applyUpTo feed W x) .next ≡ lowestIn W x
+  apply-reaches = lowest-unique (apply-lowest inv) lowest-in

@@ -4,7 +4,7 @@ use Prim.Native.Nat.{ℕ, zero, suc, _+_, _-_, _≤_, _<_, max}
 use mathlib.Core.Path.{_≡_}
 use mathlib.Core.List.{List, [], _∷_}
 use mathlib.Core.Option.{Option, none, some}
-use Rattle.merge.specs.State.{Feed, Packet, State, Channel, endOf, copyOf, firstThere, takeOne}
+use Rattle.merge.specs.State.{Feed, Packet, State, Channel, Call, keeping, applying, endOf, copyOf, firstThere, callOne}
 
 module _ {Msg : Type 0} where
   -- Packet p has a message numbered k.
@@ -62,7 +62,12 @@ module _ {Msg Table : Type 0} where
   sentTables feed sent s n = running feed (λ k. some (sent k)) s (n - s)
 
 module _ {Handed Msg Table : Type 0} where
-  -- The history that calls make: of all that is handed in, what the judge lets pass.
-  unfoldable pub accepted : Channel Handed Msg Table → State Msg Table → List Handed → List (Packet Msg)
+  -- What a call brings: the packet in what it hands in, if the judge lets it pass.
+  abbrev pub broughtBy : Channel Handed Msg Table → State Msg Table → Call Handed → Option (Packet Msg)
+  broughtBy ch x (keeping b) = ch .judge x b
+  broughtBy ch x (applying c) = none
+
+  -- The history that calls make.
+  unfoldable pub accepted : Channel Handed Msg Table → State Msg Table → List (Call Handed) → List (Packet Msg)
   accepted ch x [] = []
-  accepted ch x (b ∷ bs) = joined (ch .judge x b) (accepted ch (takeOne ch x b) bs)
+  accepted ch x (c ∷ cs) = joined (broughtBy ch x c) (accepted ch (callOne ch x c) cs)

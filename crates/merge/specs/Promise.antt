@@ -18,15 +18,13 @@ module _ {Msg Table : Type 0} where
     pub tables : x .tables ≡ tablesOf feed s (x .next) h
     pub end : x .end ≡ largestEnd s h
 
-  -- The rule between calls: besides, nothing is left to apply, so that next is the lowest number not carried.
-  pub record Settled (feed : Feed Msg Table) (W s : ℕ) (h : List (Packet Msg)) (x : State Msg Table) : Type 0 where
-    pub inv : Inv feed W s h x
-    pub lowest : Lowest s h (x .next)
-
-  -- Demand 3. The n of which it speaks is next; whichever n is lowest, the tables are those of s to n - 1.
+  -- Demand 3, with next as a, the lowest number not applied. From s on all numbers below a were carried, and a is at most n, the lowest
+  -- number that was not; the tables are those of s to a - 1.
   pub record Demand3 (feed : Feed Msg Table) (s : ℕ) (h : List (Packet Msg)) (x : State Msg Table) : Type 0 where
-    pub lowest : Lowest s h (x .next)
-    pub tables : (n : ℕ) → Lowest s h n → x .tables ≡ tablesOf feed s n h
+    pub from : s ≤ x .next
+    pub carried : (k : ℕ) → s ≤ k → k < x .next → Carried k h
+    pub most : (n : ℕ) → Lowest s h n → x .next ≤ n
+    pub tables : x .tables ≡ tablesOf feed s (x .next) h
     pub end : x .end ≡ largestEnd s h
 
   -- Where a number that waits can lie.
@@ -47,6 +45,7 @@ module _ {Msg Table : Type 0} where
 pub record Judged {Handed Msg Table : Type 0} (ch : Channel Handed Msg Table) : Type 0 where
   pub fits : (x : State Msg Table) (b : Handed) (p : Packet Msg) → ch .judge x b ≡ some p → Fits (ch .window) x p
 
--- The rule on a channel for a session opened at s, which the opening gives and every call keeps.
+-- The rule on a channel for a session opened at s, which the opening gives and every call keeps: behind a call messages may be left that
+-- could be applied.
 abbrev pub Rule : {Handed Msg Table : Type 0} → Channel Handed Msg Table → ℕ → List (Packet Msg) → State Msg Table → Type 0
-Rule ch s h x = Settled (ch .feed) (ch .window) s h x
+Rule ch s h x = Inv (ch .feed) (ch .window) s h x

@@ -3,7 +3,7 @@
 use mathlib.Core.Path.{_≡_, refl, ap, ap₂, _∙_, sym, subst}
 use mathlib.Core.Bool.{Bool, true, false, cond, not, _&&_}
 use mathlib.Core.List.{List, [], _∷_, _++_}
-use mathlib.Core.Option.{none, some}
+use mathlib.Core.Option.{Option, none, some}
 use Prim.Native.Nat.{ℕ, zero, suc, _+_, _-_, _*_, _/_, _%_, _≤_, _<_, min, max}
 use native.Mathlib.Omega.{arith}
 use borrow.Author.Tests.{eq-eqb, le-ltb, leb-false, leb-true, lt-ltb, ne-eqb}
@@ -11,7 +11,9 @@ use lib.Dec.{eqb, leb, ltb}
 use lib.ListN.{length, getD, replicate, set}
 use Rattle.wire.specs.Number.{Bytes, part, splice}
 use Rattle.wire.proofs.Place.{part-all, part-bytes, splice-none}
-use Rattle.merge.specs.State.{opened, takeAll, takeOne}
+use Rattle.merge.specs.State.{applySome, applyUpTo, applying, callAll, callOne, isThere, lowestFrom, lowestIn, opened, takeAll, takeOne}
+use Rattle.merge.proofs.Demand3.{apply-some-moves}
+use Rattle.merge.proofs.Lowest.{lowest-in}
 use Rattle.merge.proofs.Window.{next-end}
 use Rattle.packet.specs.Header as header
 use Rattle.packet.specs.Header.{Test, decided, flagTests, headerIn, headerTests}
@@ -30,17 +32,18 @@ use Rattle.book_room.specs.Room.{rowsOf as insideRows}
 use Rattle.window_taking.specs.Keeping.{waitingOf, windowFor}
 use Rattle.window_taking.specs.Taking.{takeTests, waitTests}
 use Rattle.window_taking.specs.Turns.{behind, cutAt, endFrom, frameAt, packetAt, packetsFrom, packetsIn}
+use Rattle.window_taking.proofs.Accepted.{overnight-judged}
 use Rattle.window_taking.proofs.Windows.{waits-place}
 use Rattle.session.specs.Meaning.{AllBytes, Held, Ruled, Meaning, endIn, feed, held, nextIn, overnight, rep, view}
 use Rattle.book_index.proofs.Laws.{index-empty}
 use Rattle.session.specs.Asking.{gapFrom, gapsOf, lacks, limit, lineIn, missing, placed}
-use Rattle.session.specs.Bursts.{answerOf, answered, answersAfter, burstOf, bytesOf, countIf, countOf, refusalOf, rowOf, rowsOf}
+use Rattle.session.specs.Bursts.{answerOf, answered, appliedBy, answersAfter, burstOf, bytesOf, countIf, countOf, refusalOf, rowOf, rowsOf}
 use Rattle.session.specs.Bursts.{Runs}
 use Rattle.session.specs.declared.packets.Answer.{Answer}
 use Rattle.session.specs.declared.packets.Answer.the-variants.{Applied, Refused}
 use Rattle.session.specs.declared.packets.Count.{Count}
 use Rattle.session.specs.declared.packets.Count.the-variants as count
-use Rattle.session.proofs.States.{ruled-more, stands}
+use Rattle.session.proofs.States.{ruled-calls, ruled-more, ruled-rule, stands}
 
 -- ---- an opening
 
@@ -129,16 +132,19 @@ one-packet s =
 pub one-runs : Runs 1 4
 one-runs = record { room = omega arith; big = omega arith }
 
-module _ (x : Meaning) (s : List ℕ) {l : List ℕ} (rows : l ≡ splice (0 ∷ 0 ∷ 0 ∷ 0 ∷ []) 0 (rowsOf x (packetsFrom true 1 0 s))) where
+pub no-runs : Runs 0 1
+no-runs = record { room = omega arith; big = omega arith }
+
+module _ (x : Meaning) (s : List ℕ) {l : List ℕ} (rows : l ≡ splice (0 ∷ 0 ∷ 0 ∷ 0 ∷ []) 0 (rowsOf (applyUpTo feed 0 x) (packetsFrom true 1 0 s))) where
   four : l ≡ rowOf x s
-  unfolding splice rowsOf
+  unfolding splice rowsOf applyUpTo
   four = rows ∙ ap (λ (ps : List (List ℕ)). splice (0 ∷ 0 ∷ 0 ∷ 0 ∷ []) 0 (rowsOf x ps)) (one-packet s)
 
   pub told-refusal : getD l 1 0 ≤ 255
   told-refusal = subst (λ (k : List ℕ). getD k 1 0 ≤ 255) (sym four) (omega (arith, refusal-small x s))
 
-  pub taken-is : {after : Held} → after ≡ rep (takeAll overnight x (packetsFrom true 1 0 s)) → after ≡ rep (takeOne overnight x s)
-  unfolding takeAll
+  pub taken-is : {after : Held} → after ≡ rep (takeAll overnight (applyUpTo feed 0 x) (packetsFrom true 1 0 s)) → after ≡ rep (takeOne overnight x s)
+  unfolding takeAll applyUpTo
   taken-is e = e ∙ ap (λ (ps : List (List ℕ)). rep (takeAll overnight x ps)) (one-packet s)
 
   pub answer-is : {answer : Answer} → answer ≡ answered (getD l 0 0) (getD l 1 0) → answer ≡ answerOf x s
@@ -190,16 +196,16 @@ module _ (x : Meaning) (s : List ℕ) (answers : List ℕ) (most : ℕ) {fits : 
       go true e = ap after (due-by true e) ∙ sym (ap (λ (c : Bool). cond c none (after most)) (short ∙ ap not e))
       go false e = ap after (due-by false e) ∙ nothing ∙ sym (ap (λ (c : Bool). cond c none (after most)) (short ∙ ap not e))
 
-  pub burst-is : {after : Held} → after ≡ rep (takeAll overnight x (packetsIn due s)) → after ≡ rep (burstOf x s most (length answers))
-  unfolding burstOf takeAll packetsFrom
+  pub burst-is : {after : Held} → after ≡ rep (takeAll overnight (applyUpTo feed 0 x) (packetsIn due s)) → after ≡ rep (burstOf x s most (length answers))
+  unfolding burstOf takeAll packetsFrom applyUpTo
   burst-is is = is ∙ ap rep (chosen (λ (n : ℕ). takeAll overnight x (packetsIn n s)) refl)
 
   pub bytes-are : {at : ℕ} → at ≡ endFrom false due 0 s → at ≡ bytesOf s most (length answers)
   unfolding bytesOf endFrom
   bytes-are is = is ∙ chosen (λ (n : ℕ). endFrom false n 0 s) refl
 
-  pub rows-are : {after : List ℕ} → after ≡ splice answers 0 (rowsOf x (packetsIn due s)) → after ≡ answersAfter x s most answers
-  unfolding answersAfter rowsOf packetsFrom
+  pub rows-are : {after : List ℕ} → after ≡ splice answers 0 (rowsOf (applyUpTo feed 0 x) (packetsIn due s)) → after ≡ answersAfter x s most answers
+  unfolding answersAfter rowsOf packetsFrom applyUpTo
   rows-are is = is ∙ chosen (λ (n : ℕ). splice answers 0 (rowsOf x (packetsIn n s))) (splice-none answers 0)
 
   pub count-is : {taken : ℕ} {told : Count} → taken ≡ length (packetsIn due s) → told ≡ countIf fits taken → told ≡ countOf s most (length answers)
@@ -210,8 +216,36 @@ module _ (x : Meaning) (s : List ℕ) (answers : List ℕ) (most : ℕ) {fits : 
       go true e = counts ∙ (λ i. countIf (e i) (is i)) ∙ ap (λ (n : ℕ). count.Packets (length (packetsIn n s))) (due-by true e) ∙ sym (ap (λ (b : Bool). cond b (count.Refused 11) (count.Packets (length (packetsIn most s)))) (short ∙ ap not e))
       go false e = counts ∙ ap (λ (b : Bool). countIf b taken) e ∙ sym (ap (λ (b : Bool). cond b (count.Refused 11) (count.Packets (length (packetsIn most s)))) (short ∙ ap not e))
 
-pub rule-packets : {session : Held} → Ruled session → (single : Bool) (s : List ℕ) (n : ℕ) → Bytes s → {after : Held} → after ≡ rep (takeAll overnight (view session) (packetsFrom single n 0 s)) → Ruled after
+pub rule-packets : {session : Held} → Ruled session → (single : Bool) (s : List ℕ) (n : ℕ) → Bytes s → {after : Held} → after ≡ rep (takeAll overnight (applyUpTo feed 0 (view session)) (packetsFrom single n 0 s)) → Ruled after
+unfolding applyUpTo
 rule-packets rule single s n bytes e = rule-of e (ruled-more rule (packetsFrom single n 0 s) (packets-bytes single n 0 s bytes))
+
+-- ---- applying
+
+-- with no packet, what is due is all that is done
+module _ {session : Held} (rule : Ruled session) (s : List ℕ) (count : ℕ) {due : ℕ} (dues : due ≡ min count 256) where
+  pub some-applied : {after : Held} → after ≡ rep (takeAll overnight (applyUpTo feed due (view session)) (packetsFrom false 0 0 s)) → after ≡ rep (applySome overnight count (view session))
+  unfolding takeAll packetsFrom applySome
+  some-applied is = is ∙ ap (λ (n : ℕ). rep (applyUpTo feed n (view session))) dues
+
+  pub some-rule : {after : Held} → after ≡ rep (takeAll overnight (applyUpTo feed due (view session)) (packetsFrom false 0 0 s)) → Ruled after
+  unfolding callAll callOne
+  some-rule is = rule-of (some-applied is) (ruled-calls rule (applying count ∷ []) tt)
+
+  -- next moves on, and by so many
+  next-moves : view session .next ≤ applySome overnight count (view session) .next
+  next-moves = omega (arith, apply-some-moves overnight (rule .number) (overnight-judged feed) count (ruled-rule rule) (lowest-in (ruled-rule rule)))
+
+  module _ {after : Held} (is : after ≡ rep (takeAll overnight (applyUpTo feed due (view session)) (packetsFrom false 0 0 s))) where
+    pub next-after : nextIn (after .room) ≡ applySome overnight count (view session) .next
+    unfolding partsOf
+    next-after = ap (λ (h : Held). nextIn (h .room)) (some-applied is)
+
+    pub not-below : nextIn (session .room) ≤ nextIn (after .room)
+    not-below = omega (arith, next-moves, next-after)
+
+    pub counted : nextIn (after .room) - nextIn (session .room) ≡ appliedBy (view session) count
+    counted = ap (λ (n : ℕ). n - nextIn (session .room)) next-after
 
 -- ---- what is missing
 
@@ -283,3 +317,27 @@ module _ (room window : List ℕ) where
       let whole : runFrom (missing (lineIn room window)) first (top - first) ≡ runFrom (missing (lineIn room window)) (placed (lineIn room window) from) (limit (lineIn room window) - placed (lineIn room window) from) =
       (λ i. runFrom (missing (lineIn room window)) (at i) (ends i - at i)) in
       λ i. record { start = (run .start ∙ ap (λ (p : ℕ × ℕ). p .0) (same ∙ whole)) i; count = (run .count ∙ ap (λ (p : ℕ × ℕ). p .1) (same ∙ whole)) i }
+
+-- ---- the lowest number not carried
+
+lacks-there : (o : Option (List ℕ)) → lacks o ≡ not (isThere o)
+lacks-there none = refl
+lacks-there (some m) = refl
+
+-- the first that is missing, from next on, is the first that does not wait
+first-lowest : (w : List ℕ) (next k n : ℕ) → next ≤ k → k + n ≤ next + 256 → firstFrom (missingIn w) k n ≡ lowestFrom (waitingOf w next) k n
+unfolding firstFrom lowestFrom
+first-lowest w next k zero lo hi = refl
+first-lowest w next k (suc n) lo hi =
+    go (isThere (waitingOf w next k)) (missing-same w next k lo (omega arith) ∙ lacks-there (waitingOf w next k))
+    ∙ ap (λ (m : ℕ). cond (isThere (waitingOf w next k)) m k) (first-lowest w next (k + 1) n (omega arith) (omega arith))
+  where
+    go : (b : Bool) → missingIn w k ≡ not b → cond (missingIn w k) k (firstFrom (missingIn w) (k + 1) n) ≡ cond b (firstFrom (missingIn w) (k + 1) n) k
+    go true e = ap (λ (c : Bool). cond c k (firstFrom (missingIn w) (k + 1) n)) e
+    go false e = ap (λ (c : Bool). cond c k (firstFrom (missingIn w) (k + 1) n)) e
+
+pub lowest-is : (room w : List ℕ) {r : ℕ} → r ≡ firstFrom (missingIn w) (nextIn room) (nextIn room + 256 - nextIn room) → r ≡ lowestIn 256 (lineIn room w)
+unfolding lowestIn
+lowest-is room w e =
+    let c : nextIn room + 256 - nextIn room ≡ 256 = omega arith in
+    e ∙ ap (firstFrom (missingIn w) (nextIn room)) c ∙ first-lowest w (nextIn room) (nextIn room) 256 (omega arith) (omega arith)

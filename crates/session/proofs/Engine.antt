@@ -26,7 +26,7 @@ use Rattle.session_message.specs.declared.PacketRest.{PacketRest}
 use Rattle.window_taking.specs.declared.burst.Turn.{Turn}
 use Rattle.session.specs.Meaning.{Held, Ruled, endIn, nextIn}
 use Rattle.session.specs.Bursts.{Runs}
-use Rattle.session.specs.Engine.{AtHand, Came, Going, Names, Over, Puts, Settled, Task, Touched, Waits, atHandOf, beginOf, betweenOf, bytesOf, stepsLeft, taskOf}
+use Rattle.session.specs.Engine.{AtHand, Came, Going, Names, Over, Puts, Settled, Task, Touched, Waits, atHandOf, beginOf, betweenOf, bytesOf, stepsLeft, taskOf, turnsLeft}
 use Rattle.session.specs.declared.advancing.Point.{Point}
 use Rattle.session.specs.declared.settling.Outcome.{Outcome}
 use Rattle.session.specs.declared.touching.Touch.{Touch}
@@ -37,12 +37,12 @@ never e = absurd (omega (arith, ap {B = ℕ} (λ (b : Bool). cond b 1 0) e))
 
 -- ---- a run begins
 
-pub going-starts : {h : Held} → Ruled h → (s : List ℕ) (single : Bool) {count : ℕ} (answers : List ℕ) → Runs count (length answers)
-    → (text : List ℕ) → length text ≡ 128 → {point : Point} → point ≡ beginOf (nextIn (h .room)) (endIn (h .room)) count
-    → Going (taskOf h s single count answers) s single (h .session .orders) (h .room) (h .window) answers text point
-going-starts {h} rule s single {count} answers runs text wide e =
-    subst (Going (taskOf h s single count answers) s single (h .session .orders) (h .room) (h .window) answers text) (sym e)
-    (record { now = starts rule s single answers runs refl; wide = wide; long = refl })
+pub going-starts : {h : Held} → Ruled h → (s : List ℕ) (single : Bool) {count : ℕ} (answers : List ℕ) (due : ℕ) → Runs count (length answers)
+    → (text : List ℕ) → length text ≡ 128 → {point : Point} → point ≡ beginOf (nextIn (h .room)) (endIn (h .room)) count due
+    → Going (taskOf h s single count answers due) s single (h .session .orders) (h .room) (h .window) answers text point
+going-starts {h} rule s single {count} answers due runs text wide e =
+    subst (Going (taskOf h s single count answers due) s single (h .session .orders) (h .room) (h .window) answers text) (sym e)
+    (record { now = starts rule s single answers due runs refl; wide = wide; long = refl })
 
 module _ {t : Task} {s : List ℕ} {single : Bool} {os : List Order} {room window answers text : List ℕ} {point : Point} where
   pub going-long : Going t s single os room window answers text point → length answers ≡ t .space
@@ -110,7 +110,7 @@ module _ {t : Task} {s : List ℕ} {single : Bool} {os : List Order} {room windo
       (record { waits = λ h. never (sym h); place = λ h. never (sym h); fewer = λ h. never (sym h); over = λ _. over; long = long })
 
   pub came-waits : {r : Point} (touched : Touch) {here : PacketRest} {size next : ℕ} {turn : Turn} {rest : PacketRest} → r ≡ atHandOf touched here size next turn rest
-      → Waits t s single os room window answers text (atHandOf touched here size next turn rest) → turn .left * 257 + (turn .before + 256 - next) < stepsLeft before
+      → Waits t s single os room window answers text (atHandOf touched here size next turn rest) → turnsLeft turn rest < stepsLeft before
       → length answers ≡ t .space → Came t s single os room window answers text before r
   came-waits touched e waits fewer long =
       subst (Came t s single os room window answers text before) (sym e)

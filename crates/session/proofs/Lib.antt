@@ -6,9 +6,5 @@ pub mod Engine
 pub mod Cleared
 pub mod Calls
 pub mod Answers
-pub mod Passes
-pub mod Given
-pub mod Demand3
-pub mod Promises
 pub mod Ten
 pub mod Onward

@@ -9,16 +9,17 @@ use Prim.Native.Nat.{ℕ, zero, suc, _+_, _-_, _*_, _%_, _≤_, _<_, min}
 use native.Mathlib.Decide.{decLt, ℕ-discrete}
 use native.Mathlib.Nat.{mod-lt}
 use native.Mathlib.Omega.{arith}
+use borrow.Author.Tests.{eq-eqb, eqb-false, eqb-true, ne-eqb}
 use lib.Dec.{eqb}
 use lib.ListN.{length, getD, take, set}
 use lib.Seq.{length-take-le}
 use Rattle.wire.specs.Number.{Bytes, part, splice}
 use Rattle.wire.proofs.Place.{length-splice, part-bytes, splice-next, splice-none}
 use Rattle.merge.specs.State as merge
-use Rattle.merge.specs.State.{Packet, applyUpTo, freedAt, keep, keptAt, step, takeAll, takeIf, takeOne}
+use Rattle.merge.specs.State.{Packet, applyUpTo, endOf, freedAt, keep, keptAt, keptIf, step, takeAll, takeIf, takeOne}
 use Rattle.merge.specs.Places.{InPlaces, numberAt}
 use Rattle.merge.proofs.Clauses.{freed-other}
-use Rattle.merge.proofs.Lowest.{stuck}
+use Rattle.merge.proofs.Lowest.{Settles, apply-enough, reach-settles, stuck}
 use Rattle.merge.proofs.Places.{held-place, step-put}
 use Rattle.merge.proofs.Window.{nothing-waits, waits-where}
 use Rattle.packet.specs.Header.{decided}
@@ -37,30 +38,31 @@ use Rattle.book_room.specs.Arms.{after, namedIn}
 use Rattle.book_room.specs.Room.{Houses, partsOf, roomOf}
 use Rattle.book.proofs.Keeping as keeping
 use Rattle.book.proofs.Steps.{found-within}
-use Rattle.session_message.specs.AtNext.{Begins, Goes, Lies as InBytes, messageAt, onwardOf, sizeIn, textAfter, windowAfter}
+use Rattle.session_message.specs.AtNext.{Begins, Goes, Lies as InBytes, beginOf as beginsAt, dueOf, dueSize, messageAt, onwardOf, sizeIn, textAfter, windowAfter}
 use Rattle.session_message.specs.declared.PacketRest.{PacketRest}
 use Rattle.session_message.proofs.Choices.{freed-packet, freed-window, message-packet, message-window, onward-packet, onward-window, size-packet, size-window, text-packet, text-window}
-use Rattle.window_taking.specs.Keeping.{Known, Neat, admittedOf, countOf, heldBy, keptBy, keptIf, startsAt, stateOf, straightIn, waitingOf, windowFor}
-use Rattle.window_taking.specs.Taking.{judge, takeTests}
-use Rattle.window_taking.specs.Turns.{Closes, Follows, Lies, answerIf, atStart, behind, closing, doneIn, endFrom, frameAt, lengthAt, packetAt, packetsFrom, placeAfter, placeIf, turnOf}
+use Rattle.window_taking.specs.Keeping.{Known, Neat, admittedOf, countOf, heldBy, keptBy, startsAt, stateOf, straightIn, waitingOf, windowFor}
+use Rattle.window_taking.specs.Taking.{judge, packetIn, takeTests}
+use Rattle.window_taking.specs.Turns.{Closes, Follows, Lies, answerIf, atStart, behind, closing, doneIn, endFrom, frameAt, fromBy, lengthAt, packetAt, packetsFrom, placeAfter, placeIf, turnOf}
 use Rattle.window_taking.specs.declared.burst.Turn.{Turn}
 use Rattle.window_taking.specs.Ahead.{Ahead, freed}
-use Rattle.window_taking.proofs.Ahead.{ahead-of, level-of}
+use Rattle.window_taking.proofs.Accepted.{judged, overnight-judged}
+use Rattle.window_taking.proofs.Ahead.{ahead-of, level-of, starts-of}
 use Rattle.window_taking.proofs.Following.{Another, Ended, another, ended}
 use Rattle.window_taking.proofs.Windows.{fine, in-places, place-free, place-used, placed, same-window, waiting-for, waits-place, window-size}
 use Rattle.session.specs.Meaning.{Held, Meaning, endIn, feed, held, nextIn, overnight, rep, Ruled}
 use Rattle.session.specs.Bursts.{Runs, refusalOf, rowWith, rowsOf}
-use Rattle.session.specs.Engine.{Going, Good, NamedAt, Open, Over, PutAt, Task, Touched, Waits, atHandOf, betweenOf, finish, restOf, rowsFrom, taskOf}
+use Rattle.session.specs.Engine.{Going, Good, NamedAt, Open, Over, PutAt, Task, Touched, Waits, atHandOf, betweenOf, finish, restOf, rowsFrom, taskOf, turnsLeft}
 use Rattle.session.specs.declared.advancing.Point.{Point}
 use Rattle.session.specs.declared.touching.Touch.{Touch}
 use Rattle.session.proofs.States.{Stands, good-kept, good-step, kept, meaning, neat, ready, stands, waits-below, within}
 
 -- ---- a packet, on the window alone and on the whole session
 
-abbrev bare : Meaning → merge.State (List ℕ) (Unit {0})
+abbrev pub bare : Meaning → merge.State (List ℕ) (Unit {0})
 bare x = record { next = x .next; end = x .end; waiting = x .waiting; tables = tt }
 
-bare-judge : (x : Meaning) (p : List ℕ) → judge (bare x) p ≡ judge x p
+pub bare-judge : (x : Meaning) (p : List ℕ) → judge (bare x) p ≡ judge x p
 unfolding judge takeTests
 bare-judge x p = refl
 
@@ -68,7 +70,7 @@ bare-refusal : (x : Meaning) (p : List ℕ) → decided (takeTests (bare x) p) .
 unfolding takeTests
 bare-refusal x p = refl
 
-bare-if : (x : Meaning) (o : Option (Packet (List ℕ))) → (keptIf (bare x) o .waiting ≡ keptIf x o .waiting) × (keptIf (bare x) o .end ≡ keptIf x o .end)
+pub bare-if : (x : Meaning) (o : Option (Packet (List ℕ))) → (keptIf (bare x) o .waiting ≡ keptIf x o .waiting) × (keptIf (bare x) o .end ≡ keptIf x o .end)
 unfolding keptIf keep keptAt
 bare-if x none = (refl, refl)
 bare-if x (some p) = (refl, refl)
@@ -85,7 +87,7 @@ bare-straight x p = ap (λ (o : Option (Packet (List ℕ))). eqb (x .end) (x .ne
 bare-kept : (x : Meaning) (p : List ℕ) → keptBy (bare x) p .waiting ≡ keptBy x p .waiting
 bare-kept x p = ap (λ (o : Option (Packet (List ℕ))). keptIf (bare x) o .waiting) (bare-judge x p) ∙ bare-if x (judge x p) .0
 
-bare-held : (x : Meaning) (p : List ℕ) → heldBy (bare x) p .waiting ≡ heldBy x p .waiting
+bare-held : (x : Meaning) (p : List ℕ) → heldBy true (bare x) p .waiting ≡ heldBy true x p .waiting
 unfolding heldBy
 bare-held x p = ap (λ (b : Bool). cond b (bare x) (keptBy (bare x) p) .waiting) (bare-straight x p) ∙ go (straightIn x p)
   where
@@ -93,39 +95,30 @@ bare-held x p = ap (λ (b : Bool). cond b (bare x) (keptBy (bare x) p) .waiting)
     go true = refl
     go false = bare-kept x p
 
-pub held-by : (x : Meaning) (p : List ℕ) (b : Bool) → straightIn x p ≡ b → heldBy x p ≡ cond b x (keptBy x p)
+pub held-by : (x : Meaning) (p : List ℕ) (b : Bool) → straightIn x p ≡ b → heldBy true x p ≡ cond b x (keptBy x p)
 unfolding heldBy
 held-by x p b e = ap (λ (c : Bool). cond c x (keptBy x p)) e
 
--- with nothing left to apply before it, a packet is kept and then all is applied that can be
-pub take-kept : (x : Meaning) (p : List ℕ) → x .waiting (x .next) ≡ none → takeOne overnight x p ≡ applyUpTo feed 256 (keptBy x p)
-unfolding takeOne takeIf keptIf
-take-kept x p front = go (judge x p)
-  where
-    go : (o : Option (Packet (List ℕ))) → takeIf overnight x o ≡ applyUpTo feed 256 (keptIf x o)
-    go none = sym (stuck feed 256 front)
-    go (some q) = refl
-
 module _ (x : Meaning) {w : List ℕ} {next end : ℕ} (g : Good x) (window : w ≡ windowFor (x .waiting) (x .next)) (at : next ≡ x .next) (ends : end ≡ x .end) (p : List ℕ) where
-  as-state : stateOf w next end ≡ bare x
+  pub as-state : stateOf w next end ≡ bare x
   as-state =
       let waits : waitingOf w next ≡ x .waiting = ap₂ waitingOf window at ∙ waiting-for (within g) in
       λ i. record { next = at i; end = ends i; waiting = waits i; tables = tt }
 
-  pub state-refusal : admittedOf (stateOf w next end) p .refusal ≡ refusalOf x p
+  pub state-refusal : admittedOf true (stateOf w next end) p .refusal ≡ refusalOf x p
   unfolding admittedOf
   state-refusal = ap (λ (z : merge.State (List ℕ) (Unit {0})). decided (takeTests z p) .0) as-state ∙ bare-refusal x p
 
-  pub state-end : admittedOf (stateOf w next end) p .end ≡ keptBy x p .end
+  pub state-end : admittedOf true (stateOf w next end) p .end ≡ keptBy x p .end
   unfolding admittedOf
   state-end = ap (λ (z : merge.State (List ℕ) (Unit {0})). keptBy z p .end) as-state ∙ ap (λ (o : Option (Packet (List ℕ))). keptIf (bare x) o .end) (bare-judge x p) ∙ bare-if x (judge x p) .1
 
-  state-direct : admittedOf (stateOf w next end) p .direct ≡ cond (straightIn x p) (countOf (judge x p)) 0
+  state-direct : admittedOf true (stateOf w next end) p .direct ≡ cond (straightIn x p) (countOf (judge x p)) 0
   unfolding admittedOf
   state-direct = ap (λ (z : merge.State (List ℕ) (Unit {0})). cond (straightIn z p) (countOf (judge z p)) 0) as-state ∙ (λ i. cond (bare-straight x p i) (countOf (bare-judge x p i)) 0)
 
-  pub state-held : heldBy (stateOf w next end) p .waiting ≡ heldBy x p .waiting
-  state-held = ap (λ (z : merge.State (List ℕ) (Unit {0})). heldBy z p .waiting) as-state ∙ bare-held x p
+  pub state-held : heldBy true (stateOf w next end) p .waiting ≡ heldBy true x p .waiting
+  state-held = ap (λ (z : merge.State (List ℕ) (Unit {0})). heldBy true z p .waiting) as-state ∙ bare-held x p
 
   pub state-known : Known w next end
   state-known =
@@ -137,9 +130,44 @@ module _ (x : Meaning) {w : List ℕ} {next end : ℕ} (g : Good x) (window : w 
 
 -- ---- where the engine is
 
+none-direct : (b : Bool) (o : Option (Packet (List ℕ))) → o ≡ none → cond b (countOf o) 0 ≡ 0
+none-direct true o e = ap countOf e
+none-direct false o e = refl
+
+straight-true : (b : Bool) (c : ℕ) {d : ℕ} → d ≡ cond b c 0 → (d ≡ 0 → ⊥) → b ≡ true
+straight-true true c e n = refl
+straight-true false c e n = absurd (n e)
+
+refused-not : (x : Meaning) (p : List ℕ) → judge x p ≡ none → eqb (refusalOf x p) 0 ≡ false
+unfolding judge
+refused-not x p e = go (eqb (refusalOf x p) 0) e
+  where
+    go : (b : Bool) → cond b (some (packetIn p)) none ≡ none → b ≡ false
+    go true h = absurd (Option·none-ne-some _ (sym h))
+    go false h = refl
+
+accepted-not : (x : Meaning) (p : List ℕ) {q : Packet (List ℕ)} → judge x p ≡ some q → eqb (refusalOf x p) 0 ≡ true
+accepted-not x p {q} e = eq-eqb (refusalOf x p) 0 (judged x p q e .0)
+
+keep-end : (x : Meaning) (q : Packet (List ℕ)) → x .end ≡ x .next → q .first ≡ x .next → keep x q .end ≡ x .next + length (q .messages)
+unfolding keep
+keep-end x q level start = omega arith
+
+-- a packet that starts at next has no more messages than the window has numbers
+few-messages : (x : Meaning) (p : List ℕ) {q : Packet (List ℕ)} → judge x p ≡ some q → q .first ≡ x .next → length (q .messages) ≤ 256
+few-messages x p {q} e start =
+    by-cases (decLt 0 (length (q .messages)))
+    (λ some-message. omega (arith, start, overnight-judged feed .fits x p q e (q .first + length (q .messages) - 1) (record { low = omega arith; high = omega arith })))
+    (λ none-there. omega arith)
+
+-- where a message begins counts while one is left
+begun-at : (s : List ℕ) (left from begin next : ℕ) (w : List ℕ) (waiting : ℕ → Option (List ℕ)) → ((left ≡ 0 → ⊥) → from ≡ begin) → Ahead s left begin next w waiting → Ahead s left from next w waiting
+begun-at s zero from begin next w waiting is a = a
+begun-at s (suc left) from begin next w waiting is a = subst (λ (n : ℕ). Ahead s (suc left) n next w waiting) (sym (is (λ z. omega arith))) a
+
 -- a packet is admitted
 module _ (task : Task) (x : Meaning) (s : List ℕ) (single : Bool) (answers : List ℕ) {os : List Order} {numbers w w′ : List ℕ} {next end at left place : ℕ} {turn : Turn}
-    (bytes : Bytes s) (g : Good x) (front : x .waiting (x .next) ≡ none)
+    (bytes : Bytes s) (g : Good x)
     (orders : os ≡ book.rep (x .tables) .orders) (housed : numbers ≡ roomOf (task .next) (task .end) (book.rep (x .tables))) (window : w ≡ windowFor (x .waiting) (x .next)) (nexts : next ≡ x .next) (ends : end ≡ x .end)
     (lie : Lies single s at) (fewer : left < task .count)
     (many : length (packetsFrom single (task .count) 0 s) + left ≡ task .count + length (packetsFrom single left (behind single s at) s))
@@ -149,27 +177,92 @@ module _ (task : Task) (x : Meaning) (s : List ℕ) (single : Bool) (answers : L
     (room : place + 4 + 4 * left ≤ length answers)
     (big : length answers ≤ 18446744073709551615)
     (turned : turn ≡ turnOf (stateOf w next end) single s at left place)
-    (after : w′ ≡ windowFor (heldBy (stateOf w next end) (packetAt single s at) .waiting) next) where
-  taken : takeOne overnight x (packetAt single s at) ≡ finish (keptBy x (packetAt single s at)) (turn .before) next
-  taken =
-      let before : turn .before ≡ next = ap (λ (t : Turn). t .before) turned in
-      let c : turn .before + 256 - next ≡ 256 = omega arith in
-      take-kept x (packetAt single s at) front ∙ ap (λ (n : ℕ). applyUpTo feed n (keptBy x (packetAt single s at))) (sym c)
-
+    (after : w′ ≡ windowFor (heldBy true (stateOf w next end) (packetAt single s at) .waiting) next) where
   part-of : Bytes (packetAt single s at)
   part-of = part-bytes s (frameAt single s at .start) (frameAt single s at .size) bytes
 
   good : Good (keptBy x (packetAt single s at))
   good = good-kept g (packetAt single s at) part-of
 
-  after-held : w′ ≡ windowFor (heldBy x (packetAt single s at) .waiting) (x .next)
+  after-held : w′ ≡ windowFor (heldBy true x (packetAt single s at) .waiting) (x .next)
   after-held = after ∙ ap₂ windowFor (state-held x g window nexts ends (packetAt single s at)) nexts
 
   direct-is : turn .direct ≡ cond (straightIn x (packetAt single s at)) (countOf (judge x (packetAt single s at))) 0
   direct-is = ap (λ (t : Turn). t .direct) turned ∙ state-direct x g window nexts ends (packetAt single s at)
 
-  from-is : turn .from ≡ frameAt single s at .start + min (frameAt single s at .size) 12
+  from-is : turn .from ≡ fromBy (admittedOf true (stateOf w next end) (packetAt single s at)) (frameAt single s at .start + min (frameAt single s at .size) 12)
   from-is = ap (λ (t : Turn). t .from) turned
+
+  refusal-is : turn .refusal ≡ refusalOf x (packetAt single s at)
+  refusal-is = ap (λ (t : Turn). t .refusal) turned ∙ state-refusal x g window nexts ends (packetAt single s at)
+
+  -- what is due behind the packet: its own messages, where they are applied straight from it; else all that wait, or none where it is
+  -- refused
+  from-none : turn .direct ≡ 0 → turn .from ≡ cond (eqb (turn .refusal) 0) 256 0
+  from-none e =
+      from-is
+      ∙ ap (λ (n : ℕ). cond (eqb n 0) (cond (eqb (admittedOf true (stateOf w next end) (packetAt single s at) .refusal) 0) 256 0) (frameAt single s at .start + min (frameAt single s at .size) 12)) (sym (ap (λ (t : Turn). t .direct) turned) ∙ e)
+      ∙ ap (λ (n : ℕ). cond (eqb n 0) 256 0) (sym (ap (λ (t : Turn). t .refusal) turned))
+
+  from-some : (turn .direct ≡ 0 → ⊥) → turn .from ≡ frameAt single s at .start + min (frameAt single s at .size) 12
+  from-some n =
+      from-is
+      ∙ ap (λ (b : Bool). cond b (cond (eqb (admittedOf true (stateOf w next end) (packetAt single s at) .refusal) 0) 256 0) (frameAt single s at .start + min (frameAt single s at .size) 12))
+      (ne-eqb (admittedOf true (stateOf w next end) (packetAt single s at) .direct) 0 (λ e. n (ap (λ (t : Turn). t .direct) turned ∙ e)))
+
+  due-none : turn .direct ≡ 0 → dueOf (record { left = turn .direct; from = turn .from }) ≡ cond (eqb (turn .refusal) 0) 256 0
+  due-none e = ap (λ (b : Bool). cond b (turn .from) (turn .direct)) (eq-eqb (turn .direct) 0 e) ∙ from-none e
+
+  due-some : (turn .direct ≡ 0 → ⊥) → dueOf (record { left = turn .direct; from = turn .from }) ≡ turn .direct
+  due-some n = ap (λ (b : Bool). cond b (turn .from) (turn .direct)) (ne-eqb (turn .direct) 0 n)
+
+  -- so all is applied that taking the packet applies
+  record Due : Type 0 where
+    is : takeOne overnight x (packetAt single s at) ≡ finish (keptBy x (packetAt single s at)) (record { left = turn .direct; from = turn .from })
+    few : dueOf (record { left = turn .direct; from = turn .from }) ≤ 256
+
+  due-by : (o : Option (Packet (List ℕ))) → judge x (packetAt single s at) ≡ o → Due
+  unfolding takeOne takeIf keptIf applyUpTo
+  due-by none e =
+      let nothing : turn .direct ≡ 0 = direct-is ∙ none-direct (straightIn x (packetAt single s at)) (judge x (packetAt single s at)) e in
+      let no : eqb (turn .refusal) 0 ≡ false = ap (λ (n : ℕ). eqb n 0) refusal-is ∙ refused-not x (packetAt single s at) e in
+      let due : dueOf (record { left = turn .direct; from = turn .from }) ≡ 0 = due-none nothing ∙ ap (λ (b : Bool). cond b 256 0) no in
+      record {
+        is = ap (takeIf overnight x) e ∙ sym (ap₂ (applyUpTo feed) due (ap (keptIf x) e));
+        few = omega (arith, due);
+      }
+  due-by (some q) e = by-cases (ℕ-discrete (turn .direct) 0) waits straight
+    where
+      taken-is : takeOne overnight x (packetAt single s at) ≡ applyUpTo feed 256 (keptBy x (packetAt single s at))
+      taken-is = ap (takeIf overnight x) e ∙ ap (λ (o : Option (Packet (List ℕ))). applyUpTo feed 256 (keptIf x o)) (sym e)
+
+      waits : turn .direct ≡ 0 → Due
+      waits nothing =
+          let yes : eqb (turn .refusal) 0 ≡ true = ap (λ (n : ℕ). eqb n 0) refusal-is ∙ accepted-not x (packetAt single s at) e in
+          let due : dueOf (record { left = turn .direct; from = turn .from }) ≡ 256 = due-none nothing ∙ ap (λ (b : Bool). cond b 256 0) yes in
+          record { is = taken-is ∙ ap (λ (n : ℕ). applyUpTo feed n (keptBy x (packetAt single s at))) (sym due); few = omega (arith, due) }
+
+      straight : (turn .direct ≡ 0 → ⊥) → Due
+      straight some-straight =
+          let b = straight-true (straightIn x (packetAt single s at)) (countOf (judge x (packetAt single s at))) direct-is some-straight in
+          let count : turn .direct ≡ length (q .messages) = direct-is ∙ ap (λ (c : Bool). cond c (countOf (judge x (packetAt single s at))) 0) b ∙ ap countOf e in
+          let level : x .end ≡ x .next = level-of x (packetAt single s at) b in
+          let start : q .first ≡ x .next = starts-of x (packetAt single s at) b e in
+          let kept-is : keptBy x (packetAt single s at) ≡ keep x q = ap (keptIf x) e in
+          let ends-at : keptBy x (packetAt single s at) .end ≡ x .next + turn .direct = ap (λ (z : Meaning). z .end) kept-is ∙ keep-end x q level start ∙ ap (λ (n : ℕ). x .next + n) (sym count) in
+          let fits : turn .direct ≤ 256 = omega (arith, count, few-messages x (packetAt single s at) e start) in
+          let settles : Settles feed (turn .direct) (keptBy x (packetAt single s at)) = reach-settles (good .inv) (turn .direct) (omega (arith, ends-at, kept-next x (judge x (packetAt single s at)) .0)) in
+          let few : min 256 (turn .direct) ≡ turn .direct = omega arith in
+          record {
+            is =
+                taken-is
+                ∙ sym (apply-enough feed 256 (turn .direct) (keptBy x (packetAt single s at)) settles)
+                ∙ ap (λ (n : ℕ). applyUpTo feed n (keptBy x (packetAt single s at))) (few ∙ sym (due-some some-straight));
+            few = omega (arith, due-some some-straight, fits);
+          }
+
+  due : Due
+  due = due-by (judge x (packetAt single s at)) refl
 
   Led : Type 0
   Led = Ahead s (turn .direct) (turn .from) (keptBy x (packetAt single s at) .next) w′ (keptBy x (packetAt single s at) .waiting) × (length w′ ≡ 32768)
@@ -182,7 +275,7 @@ module _ (task : Task) (x : Meaning) (s : List ℕ) (single : Bool) (answers : L
       let first = ahead-of x s (frameAt single s at .start) (frameAt single s at .size) (lie .within) part-of free is e in
       let counted : countOf (judge x (packetAt single s at)) ≡ turn .direct = sym (direct-is ∙ ap (λ (c : Bool). cond c (countOf (judge x (packetAt single s at))) 0) e) in (
         subst (λ (n : ℕ). Ahead s (turn .direct) (turn .from) n w′ (keptBy x (packetAt single s at) .waiting)) (sym (kept-next x (judge x (packetAt single s at)) .0))
-            (subst (λ (n : ℕ). Ahead s (turn .direct) n (x .next) w′ (keptBy x (packetAt single s at) .waiting)) (sym from-is)
+            (begun-at s (turn .direct) (turn .from) (frameAt single s at .start + min (frameAt single s at .size) 12) (x .next) w′ (keptBy x (packetAt single s at) .waiting) from-some
             (subst (λ (n : ℕ). Ahead s n (frameAt single s at .start + min (frameAt single s at .size) 12) (x .next) w′ (keptBy x (packetAt single s at) .waiting)) counted first)),
         ap length is ∙ window-size (within g),
       )
@@ -200,7 +293,7 @@ module _ (task : Task) (x : Meaning) (s : List ℕ) (single : Bool) (answers : L
       let before : turn .before ≡ next = ap (λ (t : Turn). t .before) turned in
       let kn = kept-next x (judge x (packetAt single s at)) in
       let begun : turn .begun ≡ true = ap (λ (t : Turn). t .begun) turned in
-      let refusal : turn .refusal ≡ refusalOf x (packetAt single s at) = ap (λ (t : Turn). t .refusal) turned ∙ state-refusal x g window nexts ends (packetAt single s at) in
+      let refusal : turn .refusal ≡ refusalOf x (packetAt single s at) = refusal-is in
       let lefts : left ≡ turn .left = sym (ap (λ (t : Turn). t .left) turned) in
       let ats : behind single s at ≡ turn .at = sym (ap (λ (t : Turn). t .at) turned) in
       let rests : packetsFrom single left (behind single s at) s ≡ restOf single s turn = λ i. packetsFrom single (lefts i) (ats i) s in
@@ -215,19 +308,21 @@ module _ (task : Task) (x : Meaning) (s : List ℕ) (single : Bool) (answers : L
         at = nexts ∙ sym (kn .0);
         end = ap (λ (t : Turn). t .end) turned ∙ state-end x g window nexts ends (packetAt single s at);
         low = omega arith;
-        near = λ k l. good .inv .near k (omega (arith, kn .0));
         within = omega (arith, lie .within, ats);
         left = omega (arith, fewer, lefts);
         taken = omega (arith, many, lefts, ap length rests);
         stop = stop ∙ (λ i. endFrom single (lefts i) (ats i) s);
-        session = session ∙ (λ i. takeAll overnight (taken i) (rests i));
+        session = session ∙ (λ i. takeAll overnight (due .is i) (rests i));
         rows =
             rows
-            ∙ ap (λ (z : Meaning). splice answers place (rowWith (x .next) (refusalOf x (packetAt single s at)) z ++ rowsOf z (packetsFrom single left (behind single s at) s))) taken
-            ∙ (λ i. splice answers (sym (ap (λ (t : Turn). t .place) turned) i) (answerIf (sym begun i) (rowWith (sym (before ∙ nexts) i) (sym refusal i) (finish (keptBy x (packetAt single s at)) (turn .before) next)) ++ rowsOf (finish (keptBy x (packetAt single s at)) (turn .before) next) (rests i)));
+            ∙ ap (λ (z : Meaning). splice answers place (rowWith (x .next) (refusalOf x (packetAt single s at)) z ++ rowsOf z (packetsFrom single left (behind single s at) s))) (due .is)
+            ∙ (λ i. splice answers (sym (ap (λ (t : Turn). t .place) turned) i) (answerIf (sym begun i) (rowWith (sym (before ∙ nexts) i) (sym refusal i) (finish (keptBy x (packetAt single s at)) (record { left = turn .direct; from = turn .from }))) ++ rowsOf (finish (keptBy x (packetAt single s at)) (record { left = turn .direct; from = turn .from })) (rests i)));
         room = subst (λ (t : Turn). placeAfter t + 4 * t .left ≤ length answers) (sym turned) room;
         big = big;
       }
+
+  pub opens-few : dueOf (record { left = turn .direct; from = turn .from }) ≤ 256
+  opens-few = due .few
 
 -- the first of the messages that are left in the packet
 record Leads (s : List ℕ) (left from next : ℕ) (w : List ℕ) (waiting : ℕ → Option (List ℕ)) : Type 0 where
@@ -245,14 +340,44 @@ none-ahead : (s : List ℕ) (left from next : ℕ) (w : List ℕ) (waiting : ℕ
 none-ahead s left from next w waiting e a = subst (λ (n : ℕ). Ahead s n from next w waiting) e a
 
 -- what the code knows of a message at next, once it is copied out
-pub record Here (s : List ℕ) (rest : PacketRest) (size : ℕ) (text : List ℕ) (next before : ℕ) : Type 0 where
+pub record Here (s : List ℕ) (rest : PacketRest) (size : ℕ) (text : List ℕ) (next : ℕ) : Type 0 where
   pub whole : Whole (messageAt text s rest size)
   pub lies : InBytes s rest size
   pub cut : size ≤ length text
   pub long : size ≡ length (take size text)
   pub wide : length text ≡ 128
   pub below : next < 4294967296
-  pub fewer : before + 256 - (next + 1) < before + 256 - next
+  pub fewer : dueOf (onwardOf rest size) < dueOf rest
+
+-- the size of what waits, where one is due
+record DueSize (due n : ℕ) : Type 0 where
+  is : dueSize due n ≡ n
+  some-due : due ≡ 0 → ⊥
+
+due-size : (due n : ℕ) → (dueSize due n ≡ 0 → ⊥) → DueSize due n
+due-size due n used = go (eqb due 0) refl
+  where
+    go : (b : Bool) → eqb due 0 ≡ b → DueSize due n
+    go true e = absurd (used (ap (λ (b : Bool). cond b 0 n) e))
+    go false e = record { is = ap (λ (b : Bool). cond b 0 n) e; some-due = eqb-false due 0 e }
+
+no-size : (due n : ℕ) → (due ≡ 0 → ⊥) → dueSize due n ≡ 0 → n ≡ 0
+no-size due n some-due none-there = sym (ap (λ (b : Bool). cond b 0 n) (ne-eqb due 0 some-due)) ∙ none-there
+
+-- what is due, with none left in the packet and with some left
+due-window : (rest : PacketRest) → rest .left ≡ 0 → dueOf rest ≡ rest .from
+due-window rest e = ap (λ (b : Bool). cond b (rest .from) (rest .left)) (eq-eqb (rest .left) 0 e)
+
+due-packet : (rest : PacketRest) → (rest .left ≡ 0 → ⊥) → dueOf rest ≡ rest .left
+due-packet rest n = ap (λ (b : Bool). cond b (rest .from) (rest .left)) (ne-eqb (rest .left) 0 n)
+
+-- behind the last one in the packet none is due
+due-behind : (left from : ℕ) → dueOf (record { left = left; from = beginsAt left from }) ≡ left
+due-behind left from = go (eqb left 0) refl
+  where
+    go : (b : Bool) → eqb left 0 ≡ b → dueOf (record { left = left; from = beginsAt left from }) ≡ left
+    go true e = (λ i. cond (e i) (cond (e i) 0 from) left) ∙ sym (eqb-true left 0 e)
+    go false e = (λ i. cond (e i) (cond (e i) 0 from) left)
 
 -- what waits at next, by the size where it lies
 module _ {task : Task} {s : List ℕ} {single : Bool} {answers : List ℕ} {os : List Order} {numbers w : List ℕ} {next : ℕ} {turn : Turn} {rest : PacketRest}
@@ -300,11 +425,17 @@ module _ {task : Task} {s : List ℕ} {single : Bool} {answers : List ℕ} {os :
       pub known : Known w next (turn .end)
       known = state-known (o .state) (o .good) window (o .at) (o .end) []
 
-      front : o .state .waiting (o .state .next) ≡ none
-      front = sym (waits-in none-left) ∙ place-free w (next % 256) (sym (size-window rest none-left w s (next % 256)) ∙ sym told ∙ free)
+      front : (rest .from ≡ 0 → ⊥) → o .state .waiting (o .state .next) ≡ none
+      front some-due =
+          sym (waits-in none-left)
+          ∙ place-free w (next % 256) (no-size (rest .from) (sizeAt w (next % 256)) some-due (sym (size-window rest none-left w s (next % 256)) ∙ sym told ∙ free))
 
-      settled : finish (o .state) (turn .before) next ≡ o .state
-      settled = stuck feed (turn .before + 256 - next) front
+      settled : finish (o .state) rest ≡ o .state
+      unfolding applyUpTo
+      settled =
+          by-cases (ℕ-discrete (rest .from) 0)
+          (λ e. ap (λ (n : ℕ). applyUpTo feed n (o .state)) (due-window rest none-left ∙ e))
+          (λ n. stuck feed (dueOf rest) (front n))
 
       closed : closing turn next ≡ answerIf (turn .begun) (rowWith (turn .before) (turn .refusal) (o .state))
       closed = λ i. answerIf (turn .begun) ((o .at i - turn .before) ∷ turn .refusal ∷ o .at i ∷ o .end i ∷ [])
@@ -355,10 +486,26 @@ module _ {task : Task} {s : List ℕ} {single : Bool} {answers : List ℕ} {os :
           more = record { left = one-follows .some; place = omega (arith, closes .room, o .big); lies = one-follows .lies }
 
           pub follows : {w′ : List ℕ} {turn′ : Turn} → Bytes s → turn′ ≡ turnOf (stateOf w next (turn .end)) single s (turn .at) (turn .left - 1) (placeAfter turn)
-              → w′ ≡ windowFor (heldBy (stateOf w next (turn .end)) (packetAt single s (turn .at)) .waiting) next
+              → w′ ≡ windowFor (heldBy true (stateOf w next (turn .end)) (packetAt single s (turn .at)) .waiting) next
               → Open task s single answers′ os numbers w′ next turn′ (record { left = turn′ .direct; from = turn′ .from })
           follows {w′} {turn′} bytes turned after =
-              opens task (o .state) s single answers′ bytes (o .good) front (o .orders) (o .housed) window (o .at) (o .end)
+              opens task (o .state) s single answers′ bytes (o .good) (o .orders) (o .housed) window (o .at) (o .end)
+              (one-follows .lies)
+              (omega (arith, o .left, one-follows .some))
+              (omega (arith, o .taken, one-follows .some, ap length (one-follows .packets)))
+              (o .stop ∙ one-follows .end)
+              (o .session ∙ ap₂ (takeAll overnight) settled (one-follows .packets))
+              (put-row ∙ ap (λ (l : List (List ℕ)). splice answers′ (placeAfter turn) (rowsOf (o .state) l)) (one-follows .packets))
+              (omega (arith, o .room, one-follows .some, same-length))
+              (omega (arith, o .big, same-length))
+              turned
+              after
+
+          pub follows-few : {w′ : List ℕ} {turn′ : Turn} → Bytes s → turn′ ≡ turnOf (stateOf w next (turn .end)) single s (turn .at) (turn .left - 1) (placeAfter turn)
+              → w′ ≡ windowFor (heldBy true (stateOf w next (turn .end)) (packetAt single s (turn .at)) .waiting) next
+              → dueOf (record { left = turn′ .direct; from = turn′ .from }) ≤ 256
+          follows-few {w′} {turn′} bytes turned after =
+              opens-few task (o .state) s single answers′ bytes (o .good) (o .orders) (o .housed) window (o .at) (o .end)
               (one-follows .lies)
               (omega (arith, o .left, one-follows .some))
               (omega (arith, o .taken, one-follows .some, ap length (one-follows .packets)))
@@ -377,9 +524,12 @@ module _ {task : Task} {s : List ℕ} {single : Bool} {answers : List ℕ} {os :
 
       -- in the window
       module _ (none-left : rest .left ≡ 0) where
+        sized-there : DueSize (rest .from) (sizeAt w (next % 256))
+        sized-there = due-size (rest .from) (sizeAt w (next % 256)) (λ e. used (told ∙ size-window rest none-left w s (next % 256) ∙ e))
+
         in-window : o .state .waiting (o .state .next) ≡ some (part w (startOf (next % 256)) size)
         in-window =
-            let is : size ≡ sizeAt w (next % 256) = told ∙ size-window rest none-left w s (next % 256) in
+            let is : size ≡ sizeAt w (next % 256) = told ∙ size-window rest none-left w s (next % 256) ∙ sized-there .is in
             sym (waits-in none-left)
             ∙ place-used w (next % 256) (λ e. used (is ∙ e))
             ∙ ap (λ (n : ℕ). some (part w (startOf (next % 256)) n)) (sym is)
@@ -432,7 +582,26 @@ module _ {task : Task} {s : List ℕ} {single : Bool} {answers : List ℕ} {os :
       lies = record { within = λ n. omega (arith, led-by n .within, size-led n) }
 
       pub goes : length s ≤ 18446744073709551615 → Goes rest size
-      goes most = record { within = λ n. omega (arith, lies .within n) }
+      goes most = record { due = λ e. some-of (rest .from) (sized-there e .some-due); within = λ n. omega (arith, lies .within n) }
+        where
+          some-of : (n : ℕ) → (n ≡ 0 → ⊥) → 1 ≤ n
+          some-of zero h = absurd (h refl)
+          some-of (suc n) h = omega arith
+
+      -- one less is due
+      due-less : dueOf rest ≡ suc (dueOf (onwardOf rest size))
+      due-less =
+          by-cases (ℕ-discrete (rest .left) 0)
+          (λ e.
+          let some-due : 1 ≤ rest .from = goes-due (rest .from) (sized-there e .some-due) in
+          omega (arith, due-window rest e, ap dueOf (onward-window rest e size)))
+          (λ n.
+          let least : 1 ≤ rest .left = goes-due (rest .left) n in
+          omega (arith, due-packet rest n, ap dueOf (onward-packet rest n size) ∙ due-behind (rest .left - 1) (rest .from + size)))
+        where
+          goes-due : (n : ℕ) → (n ≡ 0 → ⊥) → 1 ≤ n
+          goes-due zero h = absurd (h refl)
+          goes-due (suc n) h = omega arith
 
       number-below : next < 4294967296
       number-below = omega (arith, o .at, waits-below (o .good) (o .state .next) waits)
@@ -447,20 +616,14 @@ module _ {task : Task} {s : List ℕ} {single : Bool} {answers : List ℕ} {os :
       pub houses-read : {bytes : List ℕ} → bytes ≡ m → Houses numbers (task .next) (task .end) tabled next bytes
       houses-read is = subst (Houses numbers (task .next) (task .end) tabled next) (sym is) houses
 
-      early : next < turn .before + 256
-      early =
-          by-cases (decLt next (turn .before + 256)) (λ l. l)
-          (λ l. absurd (Option·none-ne-some _ (sym (o .near (o .state .next) (omega (arith, o .at))) ∙ waits)))
-
       moved : Meaning
       moved = step feed (o .state) (some m)
 
-      onward : finish (o .state) (turn .before) next ≡ finish moved (turn .before) (next + 1)
+      onward : finish (o .state) rest ≡ finish moved (onwardOf rest size)
       unfolding applyUpTo moved
       onward =
-          let c : turn .before + 256 - next ≡ suc (turn .before + 256 - (next + 1)) = omega (arith, early) in
-          ap (λ (n : ℕ). applyUpTo feed n (o .state)) c
-          ∙ ap (λ (q : Option (List ℕ)). applyUpTo feed (turn .before + 256 - (next + 1)) (step feed (o .state) q)) waits
+          ap (λ (n : ℕ). applyUpTo feed n (o .state)) due-less
+          ∙ ap (λ (q : Option (List ℕ)). applyUpTo feed (dueOf (onwardOf rest size)) (step feed (o .state) q)) waits
 
       -- the place in the window is free
       freed-place : rest .left ≡ 0 → splice w (startOf (next % 256)) (zeros 128) ≡ windowFor (moved .waiting) (moved .next)
@@ -486,14 +649,15 @@ module _ {task : Task} {s : List ℕ} {single : Bool} {answers : List ℕ} {os :
           by-cases (ℕ-discrete (rest .left) 0)
           (λ e.
           let is : windowAfter w rest (next % 256) ≡ windowFor (moved .waiting) (moved .next) = freed-window rest e w (next % 256) ∙ freed-place e in
-          let nought : 0 ≡ onwardOf rest size .left = sym (ap (λ (z : PacketRest). z .left) (onward-window rest e size) ∙ e) in
+          let nought : 0 ≡ onwardOf rest size .left = sym (ap (λ (z : PacketRest). z .left) (onward-window rest e size)) in
           (subst (λ (n : ℕ). Ahead s n (onwardOf rest size .from) (moved .next) (windowAfter w rest (next % 256)) (moved .waiting)) nought is, ap length is ∙ window-size (within (good-step (o .good) waits))))
           (λ n.
-          let on : onwardOf rest size ≡ record { left = rest .left - 1; from = rest .from + size } = onward-packet rest n size in
+          let on : onwardOf rest size ≡ record { left = rest .left - 1; from = beginsAt (rest .left - 1) (rest .from + size) } = onward-packet rest n size in
           let to : rest .from + lengthAt s (rest .from) ≡ rest .from + size = ap (λ (k : ℕ). rest .from + k) (sym (size-led n)) in (
             subst (λ (z : PacketRest). Ahead s (z .left) (z .from) (moved .next) (windowAfter w rest (next % 256)) (moved .waiting)) (sym on)
-                (subst (λ (l : List ℕ). Ahead s (rest .left - 1) (rest .from + size) (moved .next) l (moved .waiting)) (sym (freed-packet rest n w (next % 256)))
-                (subst (λ (k : ℕ). Ahead s (rest .left - 1) k (moved .next) w (moved .waiting)) to (led-by n .rest))),
+                (subst (λ (l : List ℕ). Ahead s (rest .left - 1) (beginsAt (rest .left - 1) (rest .from + size)) (moved .next) l (moved .waiting)) (sym (freed-packet rest n w (next % 256)))
+                (begun-at s (rest .left - 1) (beginsAt (rest .left - 1) (rest .from + size)) (rest .from + size) (moved .next) w (moved .waiting) (λ some-left. ap (λ (b : Bool). cond b 0 (rest .from + size)) (ne-eqb (rest .left - 1) 0 some-left))
+                (subst (λ (k : ℕ). Ahead s (rest .left - 1) k (moved .next) w (moved .waiting)) to (led-by n .rest)))),
             ap length (freed-packet rest n w (next % 256)) ∙ o .long,
           ))
 
@@ -514,18 +678,17 @@ module _ {task : Task} {s : List ℕ} {single : Bool} {answers : List ℕ} {os :
             at = ap (λ (n : ℕ). n + 1) (o .at);
             end = o .end;
             low = omega (arith, o .low);
-            near = λ k l. freed-other (o .state) k (λ e. omega (arith, early, o .at)) ∙ o .near k l;
             within = o .within;
             left = o .left;
             taken = o .taken;
             stop = o .stop;
-            session = o .session ∙ ap (λ (z : Meaning). takeAll overnight z (restOf single s turn)) onward;
-            rows = o .rows ∙ ap (λ (z : Meaning). splice answers (turn .place) (rowsFrom turn z (restOf single s turn))) onward;
+            session = o .session ∙ ap (λ (z : Meaning). takeAll overnight z (restOf single s turn)) (onward ∙ ap (finish moved) (sym on));
+            rows = o .rows ∙ ap (λ (z : Meaning). splice answers (turn .place) (rowsFrom turn z (restOf single s turn))) (onward ∙ ap (finish moved) (sym on));
             room = o .room;
             big = o .big;
           }
 
-      pub here : Here s rest size text′ next (turn .before)
+      pub here : Here s rest size text′ next
       here =
           record {
             whole = whole;
@@ -534,7 +697,7 @@ module _ {task : Task} {s : List ℕ} {single : Bool} {answers : List ℕ} {os :
             long = sym (length-take-le size text′ cut);
             wide = wider;
             below = number-below;
-            fewer = omega (arith, early);
+            fewer = omega (arith, due-less);
           }
 
       -- it is done but for what it leaves to do in the order table
@@ -589,21 +752,16 @@ module _ {task : Task} {s : List ℕ} {single : Bool} {answers : List ℕ} {os :
         passes-so none-touched =
             record { now = applied (o .orders ∙ sym (touched .passes none-touched .orders)) (touched .passes none-touched .is) clear on; wide = wider; long = space }
 
--- the burst's steps that are left: those of the packet at hand, and as many as a packet can have for each that follows
-pub less-turn : (turn turn′ : Turn) (next : ℕ) → turn′ .left ≡ turn .left - 1 → turn′ .before ≡ next → 1 ≤ turn .left
-    → turn′ .left * 257 + (turn′ .before + 256 - next) < turn .left * 257 + (turn .before + 256 - next)
-less-turn turn turn′ next left before least = omega arith
+-- a packet more is begun: of those that follow one is less, and no more is due than can wait
+pub less-turn : (turn turn′ : Turn) (rest rest′ : PacketRest) → turn′ .left ≡ turn .left - 1 → dueOf rest′ ≤ 256 → 1 ≤ turn .left → turnsLeft turn′ rest′ < turnsLeft turn rest
+less-turn turn turn′ rest rest′ left few least = omega arith
 
 -- ---- from the start on
 
-pub bytes-of : (s : List ℕ) → ((i : ℕ) → getD s i 0 < 256) → Bytes s
-bytes-of [] h = tt
-bytes-of (b ∷ s) h = (h 0, bytes-of s (λ i. h (suc i)))
-
 -- where the burst begins: no packet is at hand
-module _ {session : Held} (rule : Ruled session) (s : List ℕ) (single : Bool) {count : ℕ} (answers : List ℕ) (runs : Runs count (length answers)) where
+module _ {session : Held} (rule : Ruled session) (s : List ℕ) (single : Bool) {count : ℕ} (answers : List ℕ) (due : ℕ) (runs : Runs count (length answers)) where
   pub starts : {turn : Turn} → turn ≡ atStart (nextIn (session .room)) (endIn (session .room)) count
-      → Open (taskOf session s single count answers) s single answers (session .session .orders) (session .room) (session .window) (nextIn (session .room)) turn (record { left = 0; from = 0 })
+      → Open (taskOf session s single count answers due) s single answers (session .session .orders) (session .room) (session .window) (nextIn (session .room)) turn (record { left = 0; from = due })
   unfolding partsOf
   starts {turn} turned =
       let h : Stands session = stands rule in
@@ -615,7 +773,6 @@ module _ {session : Held} (rule : Ruled session) (s : List ℕ) (single : Bool) 
       let ats : 0 ≡ turn .at = sym (ap (λ (t : Turn). t .at) turned) in
       let packets : packetsFrom single count 0 s ≡ restOf single s turn = λ i. packetsFrom single (lefts i) (ats i) s in
       let before : turn .before ≡ nextIn (session .room) = ap (λ (t : Turn). t .before) turned in
-      let done : x ≡ finish x (turn .before) (nextIn (session .room)) = sym (stuck feed (turn .before + 256 - nextIn (session .room)) (h .front)) in
       record {
         state = x;
         good = h .good;
@@ -626,16 +783,14 @@ module _ {session : Held} (rule : Ruled session) (s : List ℕ) (single : Bool) 
         at = nexts;
         end = ap (λ (t : Turn). t .end) turned ∙ ends;
         low = omega arith;
-        near = λ k l. h .good .inv .near k (omega (arith, before, nexts));
         within = omega (arith, ats);
         left = omega (arith, lefts);
         taken = omega (arith, lefts, ap length packets);
         stop = λ i. endFrom single (lefts i) (ats i) s;
-        session = (λ i. takeAll overnight (meaning h i) (packets i)) ∙ ap (λ (z : Meaning). takeAll overnight z (restOf single s turn)) done;
+        session = (λ i. takeAll overnight (applyUpTo feed due (meaning h i)) (packets i));
         rows =
-            (λ i. splice answers 0 (rowsOf (meaning h i) (packets i)))
-            ∙ ap (λ (z : Meaning). splice answers 0 (rowsOf z (restOf single s turn))) done
-            ∙ (λ i. splice answers (sym (ap (λ (t : Turn). t .place) turned) i) (answerIf (sym (ap (λ (t : Turn). t .begun) turned) i) (rowWith (turn .before) (turn .refusal) (finish x (turn .before) (nextIn (session .room)))) ++ rowsOf (finish x (turn .before) (nextIn (session .room))) (restOf single s turn)));
+            (λ i. splice answers 0 (rowsOf (applyUpTo feed due (meaning h i)) (packets i)))
+            ∙ (λ i. splice answers (sym (ap (λ (t : Turn). t .place) turned) i) (answerIf (sym (ap (λ (t : Turn). t .begun) turned) i) (rowWith (turn .before) (turn .refusal) (applyUpTo feed due x)) ++ rowsOf (applyUpTo feed due x) (restOf single s turn)));
         room = subst (λ (t : Turn). placeAfter t + 4 * t .left ≤ length answers) (sym turned) (omega (arith, runs .room));
         big = runs .big;
       }

@@ -1,19 +1,18 @@
--- The meanings that an opening and packets give, and the sessions that hold them.
+-- The meanings that an opening and calls give, and the sessions that hold them.
 -- Assumes nothing.
 use mathlib.Core.Path.{_≡_, refl, ap, _∙_, sym, subst}
 use mathlib.Core.List.{List, [], _∷_, _++_}
 use mathlib.Core.Logic.{by-cases}
 use mathlib.Core.Option.{Option, none, some, Option·none-ne-some}
-use Prim.Native.Nat.{ℕ, zero, suc, _+_, _≤_, _<_}
+use Prim.Native.Nat.{ℕ, zero, suc, _+_, _≤_, _<_, min}
 use native.Mathlib.Decide.{decLt, ℕ-discrete}
 use native.Mathlib.Omega.{arith}
 use Rattle.wire.specs.Number.{Bytes}
-use Rattle.merge.specs.State.{Packet, applyUpTo, copyOf, firstThere, freedAt, keep, opened, step, takeAll, takeIf, takeOne}
+use Rattle.merge.specs.State.{Call, Packet, applySome, applyUpTo, applying, callAll, callOne, callsIf, callsOf, copyOf, firstThere, freedAt, keep, keepOne, keeping, keptIf, opened, step, takeAll, takeIf, takeOne}
 use Rattle.merge.specs.History.{accepted}
 use Rattle.merge.specs.Promise.{Fits, Rule}
 use Rattle.merge.proofs.Clauses.{freed-next, freed-other, kept-new, kept-old}
-use Rattle.merge.proofs.Demand3.{opened-rule, takeAll-rule}
-use Rattle.merge.proofs.Lowest.{front-free}
+use Rattle.merge.proofs.Demand3.{call-more, callAll-rule, opened-rule, take-calls}
 use Rattle.merge.proofs.Rule.{keep-inv, opened-inv, step-inv}
 use Rattle.merge.proofs.Window.{next-end, waits-where}
 use Rattle.message.specs.Whole.{Whole}
@@ -25,13 +24,13 @@ use Rattle.book_room.specs.Room.{partsOf}
 use Rattle.book_room.proofs.Insides.{insides-in}
 use Rattle.book.proofs.Keeping as keeping
 use Rattle.book.proofs.Laws.{counted-next}
-use Rattle.window_taking.specs.Keeping.{Neat, keptBy, keptIf, windowFor}
+use Rattle.window_taking.specs.Keeping.{Neat, keptBy, windowFor}
 use Rattle.window_taking.specs.Taking.{judge}
 use Rattle.window_taking.proofs.Accepted.{overnight-judged}
 use Rattle.window_taking.proofs.Passing.{Passes, passes}
 use Rattle.window_taking.proofs.Windows.{Within, neat-for, waiting-for}
 use Rattle.session.specs.Engine.{Good}
-use Rattle.session.specs.Meaning.{AllBytes, Held, Ruled, Meaning, feed, overnight, rep, tablesIn, view}
+use Rattle.session.specs.Meaning.{AllBytes, CallsBytes, Held, Ruled, Meaning, feed, overnight, rep, tablesIn, view}
 
 module _ {x : Meaning} (g : Good x) where
   pub within : Within (x .waiting) (x .next)
@@ -144,58 +143,79 @@ unfolding takeAll
 good-all [] all g = g
 good-all (s ∷ ss) all g = good-all ss (all .1) (good-one g s (all .0))
 
--- a session that keeps the rule holds such a meaning, and nothing in it is left to apply
+pub good-call : (c : Call (List ℕ)) (cs : List (Call (List ℕ))) → CallsBytes (c ∷ cs) → {x : Meaning} → Good x → Good (callOne overnight x c) × CallsBytes cs
+unfolding callOne keepOne applySome
+good-call (keeping s) cs all g = (good-kept g s (all .0), all .1)
+good-call (applying c) cs all g = (good-apply (min c 256) g, all)
+
+pub good-calls : (cs : List (Call (List ℕ))) → CallsBytes cs → {x : Meaning} → Good x → Good (callAll overnight x cs)
+unfolding callAll
+good-calls [] all g = g
+good-calls (c ∷ cs) all g = let one = good-call c cs all g in good-calls cs (one .1) (one .0)
+
+-- a session that keeps the rule holds such a meaning
 pub record Stands (s : Held) : Type 0 where
   pub state : Meaning
   pub good : Good state
-  pub front : state .waiting (state .next) ≡ none
   pub same : s ≡ rep state
 
 pub stands : {s : Held} → Ruled s → Stands s
 stands r =
-    let x : Meaning = takeAll overnight (opened feed (r .number)) (r .handed) in
-    let settled : Rule overnight (r .number) ([] ++ accepted overnight (opened feed (r .number)) (r .handed)) x = takeAll-rule overnight (r .number) (overnight-judged feed) (r .handed) (opened-rule overnight (r .number)) in
     record {
-      state = x;
-      good = good-all (r .handed) (r .bytes) (good-open (r .number) (r .small));
-      front = front-free (settled .inv) (settled .lowest);
+      state = callAll overnight (opened feed (r .number)) (r .calls);
+      good = good-calls (r .calls) (r .bytes) (good-open (r .number) (r .small));
       same = r .given;
     }
 
 pub meaning : {s : Held} (h : Stands s) → view s ≡ h .state
 meaning h = ap view (h .same) ∙ view-rep (h .good)
 
-pub ruled-rule : {s : Held} (r : Ruled s) → Rule overnight (r .number) (accepted overnight (opened feed (r .number)) (r .handed)) (view s)
-unfolding stands takeAll
+pub ruled-rule : {s : Held} (r : Ruled s) → Rule overnight (r .number) (accepted overnight (opened feed (r .number)) (r .calls)) (view s)
+unfolding stands callAll
 ruled-rule r =
-    subst (Rule overnight (r .number) (accepted overnight (opened feed (r .number)) (r .handed))) (sym (meaning (stands r)))
-    (takeAll-rule overnight (r .number) (overnight-judged feed) (r .handed) (opened-rule overnight (r .number)))
+    subst (Rule overnight (r .number) (accepted overnight (opened feed (r .number)) (r .calls))) (sym (meaning (stands r)))
+    (callAll-rule overnight (r .number) (overnight-judged feed) (r .calls) (opened-rule overnight (r .number)))
 
-pub ruled-means : {s : Held} (r : Ruled s) → view s ≡ takeAll overnight (opened feed (r .number)) (r .handed)
+pub ruled-means : {s : Held} (r : Ruled s) → view s ≡ callAll overnight (opened feed (r .number)) (r .calls)
 unfolding stands
 ruled-means r = meaning (stands r)
 
 -- the rule is kept
-pub all-more : (ss ts : List (List ℕ)) → AllBytes ss → AllBytes ts → AllBytes (ss ++ ts)
-all-more [] ts a b = b
-all-more (s ∷ ss) ts a b = (a .0, all-more ss ts (a .1) b)
+pub all-more : (cs ds : List (Call (List ℕ))) → CallsBytes cs → CallsBytes ds → CallsBytes (cs ++ ds)
+all-more [] ds a b = b
+all-more (keeping s ∷ cs) ds a b = (a .0, all-more cs ds (a .1) b)
+all-more (applying c ∷ cs) ds a b = all-more cs ds a b
 
 pub take-more : (ss ts : List (List ℕ)) (x : Meaning) → takeAll overnight x (ss ++ ts) ≡ takeAll overnight (takeAll overnight x ss) ts
 unfolding takeAll
 take-more [] ts x = refl
 take-more (s ∷ ss) ts x = take-more ss ts (takeOne overnight x s)
 
-pub ruled-more : {s : Held} → Ruled s → (ts : List (List ℕ)) → AllBytes ts → Ruled (rep (takeAll overnight (view s) ts))
-unfolding takeAll
-ruled-more {s} r ts bytes =
+pub ruled-calls : {s : Held} → Ruled s → (cs : List (Call (List ℕ))) → CallsBytes cs → Ruled (rep (callAll overnight (view s) cs))
+ruled-calls {s} r cs bytes =
     record {
       number = r .number;
       small = r .small;
-      handed = r .handed ++ ts;
-      bytes = all-more (r .handed) ts (r .bytes) bytes;
-      given = ap rep (ap (λ (x : Meaning). takeAll overnight x ts) (ruled-means r) ∙ sym (take-more (r .handed) ts (opened feed (r .number))));
+      calls = r .calls ++ cs;
+      bytes = all-more (r .calls) cs (r .bytes) bytes;
+      given = ap rep (ap (λ (x : Meaning). callAll overnight x cs) (ruled-means r) ∙ sym (call-more overnight (r .number) (r .calls) cs (opened feed (r .number))));
     }
 
+-- packets that are taken are kept and applied
+pub taken-bytes : (ts : List (List ℕ)) → AllBytes ts → (x : Meaning) → CallsBytes (callsOf overnight x ts)
+unfolding callsOf
+taken-bytes [] bytes x = tt
+taken-bytes (t ∷ ts) bytes x = all-more (callsIf overnight t (judge x t)) (callsOf overnight (takeOne overnight x t) ts) (go (judge x t)) (taken-bytes ts (bytes .1) (takeOne overnight x t))
+  where
+    go : (o : Option (Packet (List ℕ))) → CallsBytes (callsIf overnight t o)
+    go none = (bytes .0, tt)
+    go (some p) = (bytes .0, tt)
+
+pub ruled-more : {s : Held} → Ruled s → (ts : List (List ℕ)) → AllBytes ts → Ruled (rep (takeAll overnight (view s) ts))
+ruled-more {s} r ts bytes =
+    subst (λ (x : Meaning). Ruled (rep x)) (sym (take-calls overnight (r .number) (view s) ts))
+    (ruled-calls r (callsOf overnight (view s) ts) (taken-bytes ts bytes (view s)))
+
 pub ruled-open : (n : ℕ) → n ≤ 4294967295 → Ruled (rep (opened feed n))
-unfolding takeAll
-ruled-open n small = record { number = n; small = small; handed = []; bytes = tt; given = refl }
+unfolding callAll
+ruled-open n small = record { number = n; small = small; calls = []; bytes = tt; given = refl }

@@ -1,4 +1,4 @@
--- Document 01, "Asking and writing": what is missing, and the requests for it.
+-- Document 01, "Asking and writing": what is missing, and the requests for it; document 02, T-06: the lowest number not carried.
 -- Assumes nothing.
 use mathlib.Core.Bool.{Bool, true, false}
 use mathlib.Core.List.{List}
@@ -8,7 +8,12 @@ use Rattle.window.specs.Runs.{limitOf, runFrom, runsOf}
 use Rattle.window.specs.declared.missing.Gap.{Gap}
 use Rattle.merge.specs.State.{State}
 use Rattle.window_taking.specs.Keeping.{stateOf}
+use Rattle.window_taking.specs.Taking.{lowestOf}
 use Rattle.session.specs.Meaning.{endIn, nextIn}
+
+-- the lowest number not carried
+abbrev pub lowestNumber : {T : Type 0} → State (List ℕ) T → ℕ
+lowestNumber x = lowestOf x
 
 abbrev pub lacks : Option (List ℕ) → Bool
 lacks none = true

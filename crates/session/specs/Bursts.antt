@@ -1,4 +1,4 @@
--- Document 01, "Taking a packet": the answer to one packet, and the answers to several.
+-- Document 01, "Taking a packet": the answer to one packet, the answers to several, and how many messages were applied.
 -- Assumes nothing.
 use mathlib.Core.Bool.{Bool, true, false, cond}
 use mathlib.Core.List.{List, [], _∷_, _++_}
@@ -6,7 +6,7 @@ use Prim.Native.Nat.{ℕ, _-_, _*_, _≤_}
 use lib.Dec.{eqb, ltb}
 use lib.ListN.{length}
 use Rattle.wire.specs.Number.{splice}
-use Rattle.merge.specs.State.{takeAll, takeOne}
+use Rattle.merge.specs.State.{applySome, takeAll, takeOne}
 use Rattle.packet.specs.Header.{decided}
 use Rattle.window_taking.specs.Taking.{takeTests}
 use Rattle.window_taking.specs.Turns.{endFrom, packetsIn}
@@ -31,6 +31,12 @@ answered applied refusal = cond (eqb refusal 0) (Applied applied) (Refused refus
 
 abbrev pub answerOf : Meaning → List ℕ → Answer
 answerOf x s = answered (appliedOf x s) (refusalOf x s)
+
+-- ---- applying
+
+-- how many were applied: new next less old
+abbrev pub appliedBy : Meaning → ℕ → ℕ
+appliedBy x count = applySome overnight count x .next - x .next
 
 -- ---- a burst
 

@@ -21,7 +21,7 @@ use Rattle.book.specs.declared.lookup.Found.the-variants as found
 use Rattle.book.specs.declared.tables.Order.{Order}
 use Rattle.book_room.specs.Arms.{Told, after, namedIn}
 use Rattle.book_room.specs.Room.{Houses, roomOf}
-use Rattle.session_message.specs.AtNext.{Lies, messageAt}
+use Rattle.session_message.specs.AtNext.{Lies, dueOf, messageAt}
 use Rattle.session_message.specs.declared.PacketRest.{PacketRest}
 use Rattle.window_taking.specs.Ahead.{Ahead}
 use Rattle.window_taking.specs.Turns.{answerIf, atStart, endFrom, packetsFrom, placeAfter}
@@ -44,7 +44,8 @@ pub record Good (x : Meaning) : Type 0 where
 
 -- ---- a run
 
--- what a run is to give, fixed before its first turn: the meaning and the answers behind it; of how many packets; next and end before it,
+-- what a run is to give, fixed before its first turn: the meaning and the answers behind it, where so many messages are applied before the
+-- first packet; of how many packets; next and end before it,
 -- which stay in the room until it is over; and how long the list of answers is
 pub record Task : Type 0 where
   pub all : Meaning
@@ -54,11 +55,11 @@ pub record Task : Type 0 where
   pub end : ℕ
   pub space : ℕ
 
-abbrev pub taskOf : Held → List ℕ → Bool → ℕ → List ℕ → Task
-taskOf h s single count answers =
+abbrev pub taskOf : Held → List ℕ → Bool → ℕ → List ℕ → ℕ → Task
+taskOf h s single count answers due =
     record {
-      all = takeAll overnight (view h) (packetsFrom single count 0 s);
-      written = splice answers 0 (rowsOf (view h) (packetsFrom single count 0 s));
+      all = takeAll overnight (applyUpTo feed due (view h)) (packetsFrom single count 0 s);
+      written = splice answers 0 (rowsOf (applyUpTo feed due (view h)) (packetsFrom single count 0 s));
       count = count;
       next = nextIn (h .room);
       end = endIn (h .room);
@@ -79,8 +80,8 @@ betweenOf next turn rest =
       rest = rest;
     }
 
-abbrev pub beginOf : ℕ → ℕ → ℕ → Point
-beginOf next end count = betweenOf next (atStart next end count) (record { left = 0; from = 0 })
+abbrev pub beginOf : ℕ → ℕ → ℕ → ℕ → Point
+beginOf next end count due = betweenOf next (atStart next end count) (record { left = 0; from = due })
 
 abbrev pub atHandOf : Touch → PacketRest → ℕ → ℕ → Turn → PacketRest → Point
 atHandOf touched here size next turn rest =
@@ -95,9 +96,9 @@ atHandOf touched here size next turn rest =
       rest = rest;
     }
 
--- all is applied that can be of the packet at hand
-abbrev pub finish : Meaning → ℕ → ℕ → Meaning
-finish x before next = applyUpTo feed (before + 256 - next) x
+-- what is due is applied
+abbrev pub finish : Meaning → PacketRest → Meaning
+finish x rest = applyUpTo feed (dueOf rest) x
 
 -- the packets that are left
 abbrev pub restOf : Bool → List ℕ → Turn → List (List ℕ)
@@ -118,13 +119,12 @@ pub record Open (task : Task) (s : List ℕ) (single : Bool) (answers : List ℕ
   pub at : next ≡ state .next
   pub end : turn .end ≡ state .end
   pub low : turn .before ≤ next
-  pub near : (k : ℕ) → turn .before + 256 ≤ k → state .waiting k ≡ none
   pub within : turn .at ≤ length s
   pub left : turn .left ≤ task .count
   pub taken : length (packetsFrom single (task .count) 0 s) + turn .left ≡ task .count + length (restOf single s turn)
   pub stop : endFrom single (task .count) 0 s ≡ endFrom single (turn .left) (turn .at) s
-  pub session : task .all ≡ takeAll overnight (finish state (turn .before) next) (restOf single s turn)
-  pub rows : task .written ≡ splice answers (turn .place) (rowsFrom turn (finish state (turn .before) next) (restOf single s turn))
+  pub session : task .all ≡ takeAll overnight (finish state rest) (restOf single s turn)
+  pub rows : task .written ≡ splice answers (turn .place) (rowsFrom turn (finish state rest) (restOf single s turn))
   pub room : placeAfter turn + 4 * turn .left ≤ length answers
   pub big : length answers ≤ 18446744073709551615
 
@@ -134,9 +134,12 @@ pub record Going (task : Task) (s : List ℕ) (single : Bool) (os : List Order) 
   pub wide : length text ≡ 128
   pub long : length answers ≡ task .space
 
--- the turns that are left: the messages of the packet at hand, and as many as a packet can have for each that follows
+-- the turns that are left: the messages that are due, and as many as can be due behind each packet that follows
+abbrev pub turnsLeft : Turn → PacketRest → ℕ
+turnsLeft turn rest = turn .left * 257 + dueOf rest
+
 abbrev pub stepsLeft : Point → ℕ
-stepsLeft point = point .turn .left * 257 + (point .turn .before + 256 - point .next)
+stepsLeft point = turnsLeft (point .turn) (point .rest)
 
 -- ---- a message at hand that touches an order
 

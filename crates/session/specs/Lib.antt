@@ -1,7 +1,6 @@
 -- What `session` promises: what a session means and its rule, what taking packets does to it, and what can be asked.
 pub mod Meaning
 pub mod Bursts
-pub mod Passing
 pub mod Asking
 pub mod Quoting
 pub mod Engine

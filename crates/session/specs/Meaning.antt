@@ -7,7 +7,7 @@ use Prim.Native.Nat.{ℕ, _≤_}
 use lib.ListN.{length, getD, take}
 use Rattle.wire.specs.Number.{Bytes}
 use Rattle.merge.specs.State as merge
-use Rattle.merge.specs.State.{Channel, Feed, opened, takeAll, takeOne}
+use Rattle.merge.specs.State.{Call, Channel, Feed, applying, callAll, keeping, opened}
 use Rattle.book.specs.Applying.{Rule, strict, applyUnder}
 use Rattle.book.specs.Tables as book
 use Rattle.book.specs.Tables.{Tables, fresh}
@@ -88,10 +88,17 @@ abbrev pub AllBytes : List (List ℕ) → Type 0
 AllBytes [] = Unit {0}
 AllBytes (s ∷ ss) = Bytes s × AllBytes ss
 
--- the rule, over all that a host holds: an opening, at some 32-bit number, and the packets handed in since have given it
+-- calls that hand in byte strings
+abbrev pub CallsBytes : List (Call (List ℕ)) → Type 0
+CallsBytes [] = Unit {0}
+CallsBytes (keeping s ∷ cs) = Bytes s × CallsBytes cs
+CallsBytes (applying c ∷ cs) = CallsBytes cs
+
+-- the rule, over all that a host holds: an opening, at some 32-bit number, and the calls since, packets kept and messages applied, have
+-- given it
 pub record Ruled (h : Held) : Type 0 where
   pub number : ℕ
   pub small : number ≤ 4294967295
-  pub handed : List (List ℕ)
-  pub bytes : AllBytes handed
-  pub given : h ≡ rep (takeAll overnight (opened feed number) handed)
+  pub calls : List (Call (List ℕ))
+  pub bytes : CallsBytes calls
+  pub given : h ≡ rep (callAll overnight (opened feed number) calls)

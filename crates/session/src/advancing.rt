@@ -82,16 +82,17 @@ fn at_hand(
     }
 }
 
-pub fn begin(room: &Room, count: usize) -> Point
-    ensures { λ r. ⌜ r ≡ beginOf (nextIn (now (room .entry))) (endIn (now (room .entry))) count ⌝ }
+// Before the first packet so many of the messages that wait are due.
+pub fn begin(room: &Room, count: usize, due: usize) -> Point
+    ensures { λ r. ⌜ r ≡ beginOf (nextIn (now (room .entry))) (endIn (now (room .entry))) count due ⌝ }
 {
     let next = room[NEXT];
     let turn = start(next, room[END], count);
-    between(next, turn, PacketRest { left: 0, from: 0 })
+    between(next, turn, PacketRest { left: 0, from: due })
 }
 
-// Each packet is kept, then all is applied that can be. Where nothing waits, a packet's messages are
-// applied straight from it.
+// What is due is applied; then each packet is kept and, unless it is refused, all is applied that can be.
+// Where nothing waits, a packet's messages are applied straight from it.
 pub fn advance(
     room: &mut Room,
     window: &mut Window,

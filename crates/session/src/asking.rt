@@ -29,6 +29,7 @@ use fields::id::value;
 use fields_rules::good_symbol;
 use window::asking::Asked;
 use window::missing::Gap;
+use window::missing::first_number;
 use window::places::NUMBERS;
 use window::places::Window;
 use wire::least;
@@ -41,9 +42,10 @@ ghost use Rattle.window.specs.Runs.{askedOf, bufferAfter};
 ghost use Rattle.book.specs.Asking.{orderAsked, bestAsked, insideFor};
 ghost use Rattle.book_room.specs.Room.{insideAt, insidesIn, symbolBy};
 ghost use Rattle.session.specs.Meaning.{codeIn, endIn, faultsIn, held, nextIn, tablesIn, Ruled};
-ghost use Rattle.session.specs.Asking.{gapFrom, gapsOf, lineIn};
+ghost use Rattle.session.specs.Asking.{gapFrom, gapsOf, lineIn, lowestNumber};
 ghost use Rattle.session.specs.declared.state.Session.{Session as Table};
 
+// The lowest number not applied.
 pub fn next(room: &Room) -> u64
     ensures { λ r. ⌜ r ≡ nextIn (now (room .entry)) ⌝ }
 {
@@ -54,6 +56,15 @@ pub fn end(room: &Room) -> u64
     ensures { λ r. ⌜ r ≡ endIn (now (room .entry)) ⌝ }
 {
     room[END]
+}
+
+// The lowest number that no accepted packet has carried: the first from next on that does not wait.
+pub fn lowest(room: &Room, window: &Window) -> u64
+    requires { ⌜ ((session : Table) × Ruled (held session (now room) (now window))) ⌝ }
+    ensures { λ r. ⌜ r ≡ lowestNumber (lineIn (now (room .entry)) (now (window .entry))) ⌝ }
+{
+    let next = room[NEXT];
+    first_number(window, true, next, next + NUMBERS)
 }
 
 // The code of the last Trading Session; 0 before the first.

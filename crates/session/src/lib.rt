@@ -3,7 +3,6 @@
 pub mod advancing;
 pub mod asking;
 pub mod packets;
-pub mod passing;
 pub mod running;
 pub mod settling;
 pub mod state;

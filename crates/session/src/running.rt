@@ -12,8 +12,8 @@ ghost use mathlib.Core.Path.{_≡_};
 ghost use Prim.Native.Nat.{_-_, _≤_};
 ghost use lib.ListN.{length};
 ghost use Rattle.wire.specs.Number.{splice};
-ghost use Rattle.merge.specs.State.{takeAll};
-ghost use Rattle.session.specs.Meaning.{held, overnight, rep, view, Ruled};
+ghost use Rattle.merge.specs.State.{applyUpTo, takeAll};
+ghost use Rattle.session.specs.Meaning.{feed, held, overnight, rep, view, Ruled};
 ghost use Rattle.window_taking.specs.Turns.{endFrom, packetsFrom};
 ghost use Rattle.session.specs.Bursts.{rowsOf, Runs};
 
@@ -35,8 +35,9 @@ pub fn ended(count: usize, point: Point) -> Ended
     }
 }
 
-// So many packets of the lent bytes, or all that there are, one after the other. The engine stops at each
-// message that touches an order, and what that message does is stored here.
+// Up to so many of the messages that wait are applied; then so many packets of the lent bytes are taken, or
+// all that there are, one after the other. The engine stops at each message that touches an order, and what
+// that message does is stored here.
 pub fn run(
     mut session: Session,
     room: &mut Room,
@@ -45,16 +46,17 @@ pub fn run(
     single: bool,
     count: usize,
     answers: &mut [u64],
+    due: usize,
 ) -> Ran
     requires { ⌜ Ruled (held session (now room) (now window)) ⌝ }
     requires { ⌜ Runs count (length (now answers)) ⌝ }
-    ensures held { λ r. ⌜ held (r .session) (now (room .exit)) (now (window .exit)) ≡ rep (takeAll overnight (view (held session (now (room .entry)) (now (window .entry)))) (packetsFrom single count 0 (now (packets .entry)))) ⌝ }
-    ensures answers { λ r. ⌜ now (answers .exit) ≡ splice (now (answers .entry)) 0 (rowsOf (view (held session (now (room .entry)) (now (window .entry)))) (packetsFrom single count 0 (now (packets .entry)))) ⌝ }
+    ensures held { λ r. ⌜ held (r .session) (now (room .exit)) (now (window .exit)) ≡ rep (takeAll overnight (applyUpTo feed due (view (held session (now (room .entry)) (now (window .entry))))) (packetsFrom single count 0 (now (packets .entry)))) ⌝ }
+    ensures answers { λ r. ⌜ now (answers .exit) ≡ splice (now (answers .entry)) 0 (rowsOf (applyUpTo feed due (view (held session (now (room .entry)) (now (window .entry))))) (packetsFrom single count 0 (now (packets .entry)))) ⌝ }
     ensures taken { λ r. ⌜ r .taken ≡ length (packetsFrom single count 0 (now (packets .entry))) ⌝ }
     ensures at { λ r. ⌜ r .at ≡ endFrom single count 0 (now (packets .entry)) ⌝ }
 {
     let mut text = [0u8; Session::MOST];
-    let mut point = begin(room, count);
+    let mut point = begin(room, count, due);
     loop {
         point = advance(room, window, packets, single, &mut text, answers, point);
         if !point.touches {

@@ -16,8 +16,8 @@ ghost use mathlib.Core.Bool.{Bool};
 ghost use Prim.Native.Nat.{ℕ};
 ghost use lib.ListN.{length, replicate};
 ghost use Rattle.wire.specs.Number.{splice};
-ghost use Rattle.merge.specs.State.{takeAll};
-ghost use Rattle.session.specs.Meaning.{endIn, held, nextIn, overnight, rep, view, Ruled};
+ghost use Rattle.merge.specs.State.{applyUpTo, takeAll};
+ghost use Rattle.session.specs.Meaning.{endIn, feed, held, nextIn, overnight, rep, view, Ruled};
 ghost use Rattle.session.specs.Engine.{Task, AtHand, Settled, beginOf};
 ghost use Rattle.book.specs.declared.tables.Order.{Order as Record};
 ghost use Rattle.session.specs.Bursts.{rowsOf, Runs};
@@ -31,11 +31,11 @@ fn blank() -> [u8; PLACE]
 }
 
 // Before the first packet.
-fn begin(room: &mut Room, count: usize) -> Point
-    ensures point { λ r. ⌜ r ≡ beginOf (nextIn (now (room .entry))) (endIn (now (room .entry))) count ⌝ }
+fn begin(room: &mut Room, count: usize, due: usize) -> Point
+    ensures point { λ r. ⌜ r ≡ beginOf (nextIn (now (room .entry))) (endIn (now (room .entry))) count due ⌝ }
     ensures same { λ r. ⌜ now (room .exit) ≡ now (room .entry) ⌝ }
 {
-    session::advancing::begin(room, count)
+    session::advancing::begin(room, count, due)
 }
 
 // What the message at hand does.
@@ -53,8 +53,8 @@ fn settle(
     session::settling::settle(room, text, packets, point, there)
 }
 
-// So many packets of the lent bytes, or all that there are, one after the other, as `session::running::run`
-// takes them with the orders by value.
+// Up to so many of the messages that wait are applied; then so many packets of the lent bytes are taken, or
+// all that there are, one after the other, as `session::running::run` takes them with the orders by value.
 pub fn run(
     session: &mut Session,
     room: &mut Room,
@@ -63,16 +63,17 @@ pub fn run(
     single: bool,
     count: usize,
     answers: &mut [u64],
+    due: usize,
 ) -> Ended
     requires { ⌜ Ruled (held (now session) (now room) (now window)) ⌝ }
     requires { ⌜ Runs count (length (now answers)) ⌝ }
-    ensures held { λ r. ⌜ held (now (session .exit)) (now (room .exit)) (now (window .exit)) ≡ rep (takeAll overnight (view (held (now (session .entry)) (now (room .entry)) (now (window .entry)))) (packetsFrom single count 0 (now (packets .entry)))) ⌝ }
-    ensures answers { λ r. ⌜ now (answers .exit) ≡ splice (now (answers .entry)) 0 (rowsOf (view (held (now (session .entry)) (now (room .entry)) (now (window .entry)))) (packetsFrom single count 0 (now (packets .entry)))) ⌝ }
+    ensures held { λ r. ⌜ held (now (session .exit)) (now (room .exit)) (now (window .exit)) ≡ rep (takeAll overnight (applyUpTo feed due (view (held (now (session .entry)) (now (room .entry)) (now (window .entry))))) (packetsFrom single count 0 (now (packets .entry)))) ⌝ }
+    ensures answers { λ r. ⌜ now (answers .exit) ≡ splice (now (answers .entry)) 0 (rowsOf (applyUpTo feed due (view (held (now (session .entry)) (now (room .entry)) (now (window .entry))))) (packetsFrom single count 0 (now (packets .entry)))) ⌝ }
     ensures taken { λ r. ⌜ r .taken ≡ length (packetsFrom single count 0 (now (packets .entry))) ⌝ }
     ensures at { λ r. ⌜ r .at ≡ endFrom single count 0 (now (packets .entry)) ⌝ }
 {
     let mut text = blank();
-    let mut point = begin(room, count);
+    let mut point = begin(room, count, due);
     loop {
         point = advance(room, window, packets, single, &mut text, answers, point);
         if !point.touches {

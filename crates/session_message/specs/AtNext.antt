@@ -1,4 +1,5 @@
--- Where the message at next lies: straight in the lent bytes, while some are left there, or else in its place in the window.
+-- Where the message at next lies: straight in the lent bytes, while some are left there, or else in its place in the window, while some
+-- that wait are due.
 -- Assumes nothing.
 use mathlib.Core.Path.{_≡_}
 use mathlib.Core.Bool.{Bool, cond}
@@ -14,9 +15,16 @@ use Rattle.session_message.specs.declared.PacketRest.{PacketRest}
 abbrev pub inWindow : PacketRest → Bool
 inWindow x = eqb (x .left) 0
 
+-- how many messages are due: those that are left in the packet, or so many of those that wait
+abbrev pub dueOf : PacketRest → ℕ
+dueOf x = cond (inWindow x) (x .from) (x .left)
+
+abbrev pub dueSize : ℕ → ℕ → ℕ
+dueSize due size = cond (eqb due 0) 0 size
+
 -- its size, 0 where there is none
 unfoldable pub sizeIn : List ℕ → List ℕ → PacketRest → ℕ → ℕ
-sizeIn window s x place = cond (inWindow x) (sizeAt window place) (num (part s (x .from) 2))
+sizeIn window s x place = cond (inWindow x) (dueSize (x .from) (sizeAt window place)) (num (part s (x .from) 2))
 
 -- a place of the window is copied out and made free; the packet is left alone
 unfoldable pub textAfter : List ℕ → List ℕ → PacketRest → ℕ → List ℕ
@@ -29,15 +37,19 @@ windowAfter window x place = cond (inWindow x) (splice window (startOf place) (z
 unfoldable pub messageAt : List ℕ → List ℕ → PacketRest → ℕ → List ℕ
 messageAt text s x size = cond (inWindow x) (take size text) (part s (x .from) size)
 
--- past a message
+-- past a message: one less is due, and behind the last one in the packet none
+abbrev pub beginOf : ℕ → ℕ → ℕ
+beginOf left from = cond (eqb left 0) 0 from
+
 unfoldable pub onwardOf : PacketRest → ℕ → PacketRest
-onwardOf x size = cond (inWindow x) x (record { left = x .left - 1; from = x .from + size })
+onwardOf x size = cond (inWindow x) (record { left = 0; from = x .from - 1 }) (record { left = x .left - 1; from = beginOf (x .left - 1) (x .from + size) })
 
 -- what is read lies in the bytes
 pub record Begins (s : List ℕ) (x : PacketRest) : Type 0 where
   pub within : (x .left ≡ 0 → ⊥) → x .from + 2 ≤ length s
 
 pub record Goes (x : PacketRest) (size : ℕ) : Type 0 where
+  pub due : x .left ≡ 0 → 1 ≤ x .from
   pub within : (x .left ≡ 0 → ⊥) → x .from + size ≤ 18446744073709551615
 
 pub record Lies (s : List ℕ) (x : PacketRest) (size : ℕ) : Type 0 where

@@ -1,28 +1,40 @@
 // Parts: the message at next, from where it lies. That is the packet at hand, while messages of it are
-// left that are applied straight from it, and otherwise its place in the window.
+// left that are applied straight from it, and otherwise its place in the window, while some that wait are due.
 use window::places;
 use window::places::PLACE;
 use window::places::Window;
 ghost use mathlib.Core.Path.{_≡_};
 ghost use Prim.Native.Nat.{_<_, _≤_};
 ghost use lib.ListN.{length};
-ghost use Rattle.session_message.specs.AtNext.{sizeIn, textAfter, windowAfter, onwardOf, messageAt, Begins, Goes, Lies};
+ghost use Rattle.window.specs.Window.{sizeAt};
+ghost use Rattle.session_message.specs.AtNext.{beginOf, dueSize, sizeIn, textAfter, windowAfter, onwardOf, messageAt, Begins, Goes, Lies};
 
-// What is left of the packet at hand: how many messages of it are applied straight from it, and where the
-// first of them begins in the lent bytes.
+// What is left to apply: how many messages straight from the packet at hand, and where the first of them
+// begins in the lent bytes; where none is left there, how many of those that wait are due.
 pub struct PacketRest {
     pub left: usize,
     pub from: usize,
 }
 
-// The size of the message at next, 0 where there is none.
+// The size of what waits at a place, where one more is due.
+fn size_due(window: &Window, place: usize, due: usize) -> usize
+    requires { ⌜ place < 256 ⌝ }
+    ensures { λ r. ⌜ r ≡ dueSize due (sizeAt (now (window .entry)) place) ⌝ }
+{
+    if due == 0 {
+        return 0;
+    }
+    places::size_at(window, place)
+}
+
+// The size of the message at next, 0 where there is none or none is due.
 pub fn size(window: &Window, s: &[u8], rest: PacketRest, place: usize) -> usize
     requires { ⌜ place < 256 ⌝ }
     requires { ⌜ Begins (now s) rest ⌝ }
     ensures { λ r. ⌜ r ≡ sizeIn (now (window .entry)) (now (s .entry)) rest place ⌝ }
 {
     if rest.left == 0 {
-        return places::size_at(window, place);
+        return size_due(window, place, rest.from);
     }
     let from = rest.from;
     wire::u16_at(s, from) as usize
@@ -53,16 +65,26 @@ pub fn free(window: &mut Window, rest: PacketRest, place: usize)
     }
 }
 
+// Where the next message begins; behind the last one in the packet none that waits is due.
+fn begin_of(left: usize, from: usize) -> usize
+    ensures { λ r. ⌜ r ≡ beginOf left from ⌝ }
+{
+    if left == 0 { 0 } else { from }
+}
+
 // Past a message of this size.
 pub fn onward(rest: PacketRest, size: usize) -> PacketRest
     requires { ⌜ Goes rest size ⌝ }
     ensures { λ r. ⌜ r ≡ onwardOf rest size ⌝ }
 {
     if rest.left == 0 {
-        return rest;
+        return PacketRest {
+            left: 0,
+            from: rest.from - 1,
+        };
     }
     let left = rest.left - 1;
-    let from = rest.from + size;
+    let from = begin_of(left, rest.from + size);
     PacketRest { left, from }
 }
 

@@ -11,17 +11,17 @@ use lib.Dec.{eqb, leb}
 use lib.ListN.{length, length-map}
 use Rattle.wire.specs.Number.{Bytes}
 use Rattle.wire.proofs.Place.{getD-small}
-use Rattle.merge.specs.State.{Feed, Packet, State, packet, endOf, opened, takeAll, takeOne}
-use Rattle.merge.specs.History.{accepted}
+use Rattle.merge.specs.State.{Call, Feed, Packet, State, callAll, keepOne, packet, endOf, opened, takeOne}
+use Rattle.merge.specs.History.{Lowest, accepted, joined}
 use Rattle.merge.specs.Promise.{Demand3, Fits, Judged, Rule}
-use Rattle.merge.proofs.Demand3.{demand3, take-past}
+use Rattle.merge.proofs.Demand3.{demand3, keep-moves, keep-stands, take-past}
 use Rattle.merge.proofs.Window.{fits-end, fits-heartbeat}
 use Rattle.packet.specs.Header as header
 use Rattle.packet.specs.Header.{Test, decided, headerIn, headerTests}
 use Rattle.packet.specs.Judging.{bodyTests, lastOf, packetTests, unlessHeartbeat}
 use Rattle.packet.specs.Walk.{framesFrom, sizeAt, walkFrom}
 use Rattle.packet.specs.declared.walk.Walked.{Walked}
-use Rattle.packet.proofs.Judgements.{decides, header-numbered, joined, numbered, passes}
+use Rattle.packet.proofs.Judgements.{decides, header-numbered, joined as joined-tests, numbered, passes}
 use Rattle.window_taking.specs.Taking.{bytesAt, channel, framesIn, judge, nine, packetIn, takeTests, ten, waitTests}
 
 -- no test has the number 0
@@ -49,10 +49,10 @@ second xs ys n h = go (eqb (decided xs .0) 0) refl
     go : (b : Bool) → eqb (decided xs .0) 0 ≡ b → (decided xs .0 ≡ 0) × (decided ys .0 ≡ 0)
     go true e =
         let z : decided xs .0 ≡ 0 = eqb-true (decided xs .0) 0 e in
-        (z, ap (λ (d : ℕ × ℕ). d .0) (sym (joined xs ys (0, 0) ∙ passes xs (decided ys) n z)) ∙ h)
+        (z, ap (λ (d : ℕ × ℕ). d .0) (sym (joined-tests xs ys (0, 0) ∙ passes xs (decided ys) n z)) ∙ h)
     go false e =
         let some : decided xs .0 ≡ 0 → ⊥ = eqb-false (decided xs .0) 0 e in
-        absurd (some (ap (λ (d : ℕ × ℕ). d .0) (sym (joined xs ys (0, 0) ∙ decides xs (decided ys) some)) ∙ h))
+        absurd (some (ap (λ (d : ℕ × ℕ). d .0) (sym (joined-tests xs ys (0, 0) ∙ decides xs (decided ys) some)) ∙ h))
 
 -- the first test of a list in which none applies
 pub first-not : (b : Bool) (number offset : ℕ) (rest : List Test) → (number ≡ 0 → ⊥) → decided ((b, (number, offset)) ∷ rest) .0 ≡ 0 → b ≡ false
@@ -98,15 +98,23 @@ pub overnight-judged : {Table : Type 0} (feed : Feed (List ℕ) Table) → Judge
 overnight-judged feed =
     record { fits = λ x s p h. let j = judged x s p h in subst (Fits 256 x) (j .1) (within x s (header.heartbeat (headerIn s .flag)) refl (j .0)) }
 
--- Demand 3 for the overnight feed, over any tables: for every opening number and every list of byte strings handed in.
-pub overnight-demand3 : {Table : Type 0} (feed : Feed (List ℕ) Table) (s : ℕ) (handed : List (List ℕ)) → Demand3 feed s (accepted (channel feed) (opened feed s) handed) (takeAll (channel feed) (opened feed s) handed)
-overnight-demand3 feed s handed = demand3 (channel feed) s (overnight-judged feed) handed
+-- Demand 3 for the overnight feed, over any tables: for every opening number and every sequence of calls of both kinds.
+pub overnight-demand3 : {Table : Type 0} (feed : Feed (List ℕ) Table) (s : ℕ) (calls : List (Call (List ℕ))) → Demand3 feed s (accepted (channel feed) (opened feed s) calls) (callAll (channel feed) (opened feed s) calls)
+overnight-demand3 feed s calls = demand3 (channel feed) s (overnight-judged feed) calls
 
 -- A packet that starts at or below next never meets 9: it has at most 255 messages.
 pub never-nine : {Table : Type 0} (x : State (List ℕ) Table) (s : List ℕ) → Bytes s → headerIn s .seq ≤ x .next → nine x s .0 ≡ false
 never-nine x s bytes start =
     lt-leb (x .next + 256) (lastOf (headerIn s .seq) (headerIn s .messages)) (omega (arith, getD-small s 7 bytes))
 
--- If it is taken, and its last number is at or above next, next moves past that number.
+-- If it is kept, and its last number is at or above next, the lowest number not carried moves past that number; next stands.
+pub overnight-moves : {Table : Type 0} (feed : Feed (List ℕ) Table) (s : ℕ) {h : List (Packet (List ℕ))} {x : State (List ℕ) Table} (bytes : List ℕ) {p : Packet (List ℕ)} {n : ℕ} → Rule (channel feed) s h x → judge x bytes ≡ some p → p .first ≤ x .next
+    → Lowest s (h ++ (p ∷ [])) n → (endOf p ≤ n) × (keepOne (channel feed) x bytes .next ≡ x .next)
+overnight-moves feed s {h} {x} bytes {p} {n} rule e start low = (
+  keep-moves (channel feed) s (overnight-judged feed) bytes rule e start (subst (λ (o : Option (Packet (List ℕ))). Lowest s (h ++ joined o []) n) (sym e) low),
+  keep-stands (channel feed) s x bytes .0,
+)
+
+-- Taken, it moves next too.
 pub overnight-past : {Table : Type 0} (feed : Feed (List ℕ) Table) (s : ℕ) {h : List (Packet (List ℕ))} {x : State (List ℕ) Table} (bytes : List ℕ) {p : Packet (List ℕ)} → Rule (channel feed) s h x → judge x bytes ≡ some p → p .first ≤ x .next → endOf p ≤ takeOne (channel feed) x bytes .next
 overnight-past feed s bytes rule e start = take-past (channel feed) s (overnight-judged feed) bytes rule e start

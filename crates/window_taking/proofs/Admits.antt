@@ -12,8 +12,8 @@ use borrow.Author.Tests.{eq-eqb, eqb-true, ne-eqb, le-leb, lt-leb, ltb-false}
 use lib.Dec.{eqb, leb, ltb}
 use lib.ListN.{length, length-map}
 use Rattle.wire.specs.Choice.{firstOf}
-use Rattle.merge.specs.State.{Packet, State, heartbeat, keep, keptAt, packet}
-use Rattle.merge.proofs.Clauses.{keep-heartbeat, kept-none as kept-none-at, kept-old}
+use Rattle.merge.specs.State.{Packet, State, freshIf, freshIn, heartbeat, keep, keptAt, keptIf, packet}
+use Rattle.merge.proofs.Clauses.{fresh-none, fresh-past, keep-heartbeat, kept-none as kept-none-at, kept-old}
 use Rattle.merge.proofs.Copies.{copy-none}
 use Rattle.packet.specs.Header as header
 use Rattle.packet.specs.Header.{Test, decided, flagTests, headerIn, headerTests}
@@ -25,20 +25,24 @@ use Rattle.packet.proofs.Judgements.{and-left, and-right, decides, header-numbe
 use Rattle.merge.proofs.Places.{waiting-below}
 use Rattle.window.specs.Window.{waitsAt}
 use Rattle.window_taking.specs.Taking.{bytesAt, differAt, differFrom, framesIn, isSome, judge, nine, offsetOf, orZero, packetIn, takeTests, ten, waitTests}
-use Rattle.window_taking.specs.Keeping.{waitingOf, windowFor, stateOf, startsAt, countOf, straightIn, Known, Neat, Passed, heldBy, keptIf, keptBy, admittedOf}
+use Rattle.window_taking.specs.Keeping.{waitingOf, windowFor, stateOf, startsAt, countOf, straightIn, throughIn, Known, Neat, Passed, freshBy, heldBy, keptBy, admittedOf}
 use Rattle.window_taking.specs.declared.admitting.Admitted.{Admitted}
 use Rattle.window_taking.proofs.Accepted.{first-not, length-frames, packet-numbered, second}
-use Rattle.window_taking.proofs.Keeps.{same-kept}
+use Rattle.window_taking.proofs.Keeps.{same-fresh, same-kept}
 use Rattle.window_taking.proofs.Walks.{unbroken}
 
 -- an answer and the window behind it are those of the definition
-pub record Admits (w s : List ℕ) (next end : ℕ) (r : Admitted) (after : List ℕ) : Type 0 where
-  pub answer : r ≡ admittedOf (stateOf w next end) s
-  pub kept : after ≡ windowFor (heldBy (stateOf w next end) s .waiting) next
+pub record Admits (through : Bool) (w s : List ℕ) (next end : ℕ) (r : Admitted) (after : List ℕ) : Type 0 where
+  pub answer : r ≡ admittedOf through (stateOf w next end) s
+  pub kept : after ≡ windowFor (heldBy through (stateOf w next end) s .waiting) next
 
 none-of : (b : Bool) (n : ℕ) → n ≡ 0 → cond b n 0 ≡ 0
 none-of true n e = e
 none-of false n e = refl
+
+nought-of : (b : Bool) (n : ℕ) → n ≡ 0 → cond b 0 n ≡ 0
+nought-of true n e = refl
+nought-of false n e = e
 
 judge-no : {Table : Type 0} (x : State (List ℕ) Table) (s : List ℕ) {n : ℕ} → decided (takeTests x s) .0 ≡ n → (n ≡ 0 → ⊥) → judge x s ≡ none
 unfolding judge
@@ -85,30 +89,30 @@ pub none-clashes : {w : List ℕ} {next end : ℕ} (first messages : ℕ) (s : L
 none-clashes {w} {next} first messages s known behind =
     sym (none-differs (waitingOf w next) first (framesFrom messages 12 s) s (λ j low high. none-from known j (omega arith)))
 
-module _ {w : List ℕ} (s : List ℕ) {next : ℕ} (end : ℕ) (neat : Neat w next) where
+module _ (through : Bool) {w : List ℕ} (s : List ℕ) {next : ℕ} (end : ℕ) (neat : Neat w next) where
   abbrev x : State (List ℕ) (Unit {0})
   x = stateOf w next end
 
-  held-straight : straightIn x s ≡ true → heldBy x s ≡ x
+  held-straight : throughIn through x s ≡ true → heldBy through x s ≡ x
   unfolding heldBy
   held-straight e = ap (λ (b : Bool). cond b x (keptBy x s)) e
 
-  held-apart : straightIn x s ≡ false → heldBy x s ≡ keptBy x s
+  held-apart : throughIn through x s ≡ false → heldBy through x s ≡ keptBy x s
   unfolding heldBy
   held-apart e = ap (λ (b : Bool). cond b x (keptBy x s)) e
 
   -- whether the packet goes straight on or is kept, what it leaves behind is the window as it was
-  same-held : {after : List ℕ} → after ≡ windowFor (x .waiting) next → after ≡ windowFor (keptBy x s .waiting) next → after ≡ windowFor (heldBy x s .waiting) next
-  same-held {after} one other = go (straightIn x s) refl
+  same-held : {after : List ℕ} → after ≡ windowFor (x .waiting) next → after ≡ windowFor (keptBy x s .waiting) next → after ≡ windowFor (heldBy through x s .waiting) next
+  same-held {after} one other = go (throughIn through x s) refl
     where
-      go : (b : Bool) → straightIn x s ≡ b → after ≡ windowFor (heldBy x s .waiting) next
+      go : (b : Bool) → throughIn through x s ≡ b → after ≡ windowFor (heldBy through x s .waiting) next
       go true e = one ∙ ap (λ (y : State (List ℕ) (Unit {0})). windowFor (y .waiting) next) (sym (held-straight e))
       go false e = other ∙ ap (λ (y : State (List ℕ) (Unit {0})). windowFor (y .waiting) next) (sym (held-apart e))
 
-  answers : {n to d : ℕ} → decided (takeTests x s) .0 ≡ n → to ≡ keptBy x s .end → d ≡ cond (straightIn x s) (countOf (judge x s)) 0
-      → _≡_ {A = Admitted} (record { refusal = n; end = to; direct = d }) (admittedOf x s)
+  answers : {n to d f : ℕ} → decided (takeTests x s) .0 ≡ n → to ≡ keptBy x s .end → d ≡ cond (throughIn through x s) (countOf (judge x s)) 0
+      → f ≡ cond (throughIn through x s) 0 (freshBy x s) → _≡_ {A = Admitted} (record { refusal = n; end = to; direct = d; fresh = f }) (admittedOf through x s)
   unfolding admittedOf
-  answers h e c = λ i. record { refusal = sym h i; end = e i; direct = c i }
+  answers h e c f = λ i. record { refusal = sym h i; end = e i; direct = c i; fresh = f i }
 
   kept-none : {o : Option (Packet (List ℕ))} → o ≡ none → keptIf x o ≡ x
   unfolding keptIf
@@ -119,10 +123,12 @@ module _ {w : List ℕ} (s : List ℕ) {next : ℕ} (end : ℕ) (neat : Neat w n
   kept-some e = ap (keptIf x) e
 
   -- a test that applies refuses, and nothing changes
-  refused : (n : ℕ) → decided (takeTests x s) .0 ≡ n → (n ≡ 0 → ⊥) → Admits w s next end (record { refusal = n; end = end; direct = 0 }) w
+  refused : (n : ℕ) → decided (takeTests x s) .0 ≡ n → (n ≡ 0 → ⊥) → Admits through w s next end (record { refusal = n; end = end; direct = 0; fresh = 0 }) w
   refused n h named =
       record {
-        answer = answers h (ap (λ (y : State (List ℕ) (Unit {0})). y .end) (sym (kept-none no))) (sym (none-of (straightIn x s) (countOf (judge x s)) (ap countOf no)));
+        answer =
+            answers h (ap (λ (y : State (List ℕ) (Unit {0})). y .end) (sym (kept-none no))) (sym (none-of (throughIn through x s) (countOf (judge x s)) (ap countOf no)))
+            (sym (nought-of (throughIn through x s) (freshBy x s) (ap (freshIf x) no)));
         kept = same-held (neat .same) (neat .same ∙ ap (λ (y : State (List ℕ) (Unit {0})). windowFor (y .waiting) next) (sym (kept-none no)));
       }
     where
@@ -134,21 +140,25 @@ module _ {w : List ℕ} (s : List ℕ) {next : ℕ} (end : ℕ) (neat : Neat w n
     yes : judge x s ≡ some (packetIn s)
     yes = judge-yes x s h
 
-    starts : straightIn x s ≡ (eqb end next && eqb (packetIn s .first) next)
+    starts : throughIn through x s ≡ (through && (eqb end next && eqb (packetIn s .first) next))
     unfolding straightIn
-    starts = ap (λ (o : Option (Packet (List ℕ))). eqb end next && startsAt next o) yes
+    starts = ap (λ (o : Option (Packet (List ℕ))). through && (eqb end next && startsAt next o)) yes
 
     kept-end : to ≡ keptBy x s .end
     kept-end = ends ∙ ap (λ (y : State (List ℕ) (Unit {0})). y .end) (sym (kept-some yes))
+
+    fresh-is : freshBy x s ≡ freshIn x (packetIn s)
+    fresh-is = ap (freshIf x) yes
 
     kept-window : windowFor (keep x (packetIn s) .waiting) next ≡ windowFor (keptBy x s .waiting) next
     kept-window = ap (λ (y : State (List ℕ) (Unit {0})). windowFor (y .waiting) next) (sym (kept-some yes))
 
     -- a packet that leaves the window as it was: one of no message, or all of it old
-    left-alone : (straightIn x s ≡ true → length (packetIn s .messages) ≡ 0) → w ≡ windowFor (keep x (packetIn s) .waiting) next → Admits w s next end (record { refusal = 0; end = to; direct = 0 }) w
-    left-alone empty is =
+    left-alone : (throughIn through x s ≡ true → length (packetIn s .messages) ≡ 0) → freshIn x (packetIn s) ≡ 0 → w ≡ windowFor (keep x (packetIn s) .waiting) next
+        → Admits through w s next end (record { refusal = 0; end = to; direct = 0; fresh = 0 }) w
+    left-alone empty stale is =
         record {
-          answer = answers h kept-end (go (straightIn x s) empty);
+          answer = answers h kept-end (go (throughIn through x s) empty) (sym (nought-of (throughIn through x s) (freshBy x s) (fresh-is ∙ stale)));
           kept = same-held (neat .same) (is ∙ kept-window);
         }
       where
@@ -156,19 +166,23 @@ module _ {w : List ℕ} (s : List ℕ) {next : ℕ} (end : ℕ) (neat : Neat w n
         go true e = sym (ap countOf yes ∙ e refl)
         go false e = refl
 
-    taken : (eqb end next && eqb (packetIn s .first) next) ≡ false → {after : List ℕ} → after ≡ windowFor (keep x (packetIn s) .waiting) next
-        → Admits w s next end (record { refusal = 0; end = to; direct = 0 }) after
-    taken apart is =
+    taken : (through && (eqb end next && eqb (packetIn s .first) next)) ≡ false → {after : List ℕ} {f : ℕ} → after ≡ windowFor (keep x (packetIn s) .waiting) next → f ≡ freshIn x (packetIn s)
+        → Admits through w s next end (record { refusal = 0; end = to; direct = 0; fresh = f }) after
+    taken apart is count =
         record {
-          answer = answers h kept-end (sym (ap (λ (b : Bool). cond b (countOf (judge x s)) 0) (starts ∙ apart)));
+          answer =
+              answers h kept-end (sym (ap (λ (b : Bool). cond b (countOf (judge x s)) 0) (starts ∙ apart)))
+              (count ∙ sym fresh-is ∙ sym (ap (λ (b : Bool). cond b 0 (freshBy x s)) (starts ∙ apart)));
           kept = is ∙ kept-window ∙ ap (λ (y : State (List ℕ) (Unit {0})). windowFor (y .waiting) next) (sym (held-apart (starts ∙ apart)));
         }
 
-    goes : (eqb end next && eqb (packetIn s .first) next) ≡ true → {n : ℕ} → n ≡ length (packetIn s .messages)
-        → Admits w s next end (record { refusal = 0; end = to; direct = n }) w
+    goes : (through && (eqb end next && eqb (packetIn s .first) next)) ≡ true → {n : ℕ} → n ≡ length (packetIn s .messages)
+        → Admits through w s next end (record { refusal = 0; end = to; direct = n; fresh = 0 }) w
     goes level many =
         record {
-          answer = answers h kept-end (many ∙ sym (ap countOf yes) ∙ sym (ap (λ (b : Bool). cond b (countOf (judge x s)) 0) (starts ∙ level)));
+          answer =
+              answers h kept-end (many ∙ sym (ap countOf yes) ∙ sym (ap (λ (b : Bool). cond b (countOf (judge x s)) 0) (starts ∙ level)))
+              (sym (ap (λ (b : Bool). cond b 0 (freshBy x s)) (starts ∙ level)));
           kept = neat .same ∙ ap (λ (y : State (List ℕ) (Unit {0})). windowFor (y .waiting) next) (sym (held-straight (starts ∙ level)));
         }
 
@@ -184,11 +198,11 @@ module _ {w : List ℕ} (s : List ℕ) {next : ℕ} (end : ℕ) (neat : Neat w n
     unfolding judgeOf
     number = ap (λ (j : Judged). j .test) told
 
-    pub by-packet : (judged .test ≡ 0 → ⊥) → {r : Admitted} → r ≡ record { refusal = judged .test; end = end; direct = 0 } → Admits w s next end r w
+    pub by-packet : (judged .test ≡ 0 → ⊥) → {r : Admitted} → r ≡ record { refusal = judged .test; end = end; direct = 0; fresh = 0 } → Admits through w s next end r w
     by-packet named is =
         let d : decided (takeTests x s) .0 ≡ judged .test =
         ap (λ (p : ℕ × ℕ). p .0) (apart ∙ decides (packetTests s) (decided more) (λ e. named (number ∙ e))) ∙ sym number in
-        subst (λ (a : Admitted). Admits w s next end a w) (sym is) (refused (judged .test) d named)
+        subst (λ (a : Admitted). Admits through w s next end a w) (sym is) (refused (judged .test) d named)
 
     module _ (passed : judged .test ≡ 0) where
       zero-tests : decided (packetTests s) .0 ≡ 0
@@ -210,7 +224,7 @@ module _ {w : List ℕ} (s : List ℕ) {next : ℕ} (end : ℕ) (neat : Neat w n
         flag b e = ap (λ (h : Header). eqb (h .flag % 2) 1) (sym read) ∙ e
 
         -- a heartbeat
-        pub beats : head .flag % 2 ≡ 1 → {to : ℕ} {r : Admitted} → to ≡ max end (head .seq) → r ≡ record { refusal = 0; end = to; direct = 0 } → Admits w s next end r w
+        pub beats : head .flag % 2 ≡ 1 → {to : ℕ} {r : Admitted} → to ≡ max end (head .seq) → r ≡ record { refusal = 0; end = to; direct = 0; fresh = 0 } → Admits through w s next end r w
         unfolding more packetIn keep
         beats h {to} ends is =
             let hb : header.heartbeat (headerIn s .flag) ≡ true = flag true (eq-eqb (head .flag % 2) 1 h) in
@@ -218,10 +232,11 @@ module _ {w : List ℕ} (s : List ℕ) {next : ℕ} (end : ℕ) (neat : Neat w n
             let p : packetIn s ≡ heartbeat (headerIn s .seq) = ap (λ (b : Bool). cond b (heartbeat (headerIn s .seq)) (packet (headerIn s .seq) (map (bytesAt s) (framesIn s)))) hb in
             let seq : head .seq ≡ headerIn s .seq = ap (λ (h : Header). h .seq) read in
             let k : keep x (packetIn s) ≡ record { next = next; end = max end (headerIn s .seq); waiting = waitingOf w next; tables = tt } = ap (keep x) p ∙ keep-heartbeat x (headerIn s .seq) in
-            subst (λ (a : Admitted). Admits w s next end a w) (sym is)
+            subst (λ (a : Admitted). Admits through w s next end a w) (sym is)
             (left-alone d
             (ends ∙ ap (max end) seq ∙ sym (ap (λ (y : State (List ℕ) (Unit {0})). y .end) k))
             (λ e. ap (λ (q : Packet (List ℕ)). length (q .messages)) p)
+            (ap (freshIn x) p ∙ fresh-none x (headerIn s .seq))
             (neat .same ∙ sym (ap (λ (y : State (List ℕ) (Unit {0})). windowFor (y .waiting) next) k)))
 
         module _ (other : head .flag % 2 ≡ 1 → ⊥) where
@@ -239,11 +254,11 @@ module _ {w : List ℕ} (s : List ℕ) {next : ℕ} (end : ℕ) (neat : Neat w n
           far : (b : Bool) → leb (next + 256) (lastOf (head .seq) (head .messages)) ≡ b → nine x s .0 ≡ b
           far b e = ap (λ (h : Header). leb (next + 256) (lastOf (h .seq) (h .messages))) (sym read) ∙ e
 
-          pub by-nine : next + 256 < head .seq + head .messages → {r : Admitted} → r ≡ record { refusal = 9; end = end; direct = 0 } → Admits w s next end r w
+          pub by-nine : next + 256 < head .seq + head .messages → {r : Admitted} → r ≡ record { refusal = 9; end = end; direct = 0; fresh = 0 } → Admits through w s next end r w
           by-nine h is =
               let n : nine x s .0 ≡ true = far true (le-leb (next + 256) (lastOf (head .seq) (head .messages)) (omega arith)) in
               let d : decided (takeTests x s) .0 ≡ 9 = ap (λ (p : ℕ × ℕ). p .0) (waits ∙ ap (λ (b : Bool). decided ((b, (9, 2)) ∷ ten x s ∷ [])) n) in
-              subst (λ (a : Admitted). Admits w s next end a w) (sym is) (refused 9 d (λ z. omega arith))
+              subst (λ (a : Admitted). Admits through w s next end a w) (sym is) (refused 9 d (λ z. omega arith))
 
           module _ (near : head .seq + head .messages ≤ next + 256) where
             within : nine x s .0 ≡ false
@@ -271,10 +286,10 @@ module _ {w : List ℕ} (s : List ℕ) {next : ℕ} (end : ℕ) (neat : Neat w n
                   ap (λ (p : ℕ × ℕ). p .0)
                   (waits ∙ ap (λ (c : Bool). decided ((c, (9, 2)) ∷ ten x s ∷ [])) within ∙ ap (λ (c : Bool). decided ((c, (10, ten x s .1 .1)) ∷ [])) (tenth b e))
 
-              pub by-ten : differ ≡ true → {r : Admitted} → r ≡ record { refusal = 10; end = end; direct = 0 } → Admits w s next end r w
-              by-ten e is = subst (λ (a : Admitted). Admits w s next end a w) (sym is) (refused 10 (tested true e) (λ z. omega arith))
+              pub by-ten : differ ≡ true → {r : Admitted} → r ≡ record { refusal = 10; end = end; direct = 0; fresh = 0 } → Admits through w s next end r w
+              by-ten e is = subst (λ (a : Admitted). Admits through w s next end a w) (sym is) (refused 10 (tested true e) (λ z. omega arith))
 
-              module _ (e : differ ≡ false) {to : ℕ} (ends : to ≡ max end (head .seq + head .messages)) {b : Bool} (at-next : b ≡ (eqb end next && eqb (head .seq) next)) where
+              module _ (e : differ ≡ false) {to : ℕ} (ends : to ≡ max end (head .seq + head .messages)) {b : Bool} (at-next : b ≡ (through && (eqb end next && eqb (head .seq) next))) where
                 p : packetIn s ≡ packet (head .seq) (map (bytesAt s) (framesFrom (head .messages) 12 s))
                 p = is-packet ∙ ap (λ (h : Header). packet (h .seq) (map (bytesAt s) (framesFrom (h .messages) 12 s))) (sym read)
 
@@ -285,21 +300,22 @@ module _ {w : List ℕ} (s : List ℕ) {next : ℕ} (end : ℕ) (neat : Neat w n
                 unfolding keep
                 end-is = ends ∙ sym (ap (λ (q : Packet (List ℕ)). keep x q .end) p ∙ ap (λ (k : ℕ). max end (head .seq + k)) n)
 
-                level : b ≡ (eqb end next && eqb (packetIn s .first) next)
-                level = at-next ∙ sym (ap (λ (q : Packet (List ℕ)). eqb end next && eqb (q .first) next) p)
+                level : b ≡ (through && (eqb end next && eqb (packetIn s .first) next))
+                level = at-next ∙ sym (ap (λ (q : Packet (List ℕ)). through && (eqb end next && eqb (q .first) next)) p)
 
-                pub keeps : b ≡ false → {after : List ℕ} {r : Admitted}
-                    → after ≡ windowFor (keep (stateOf w next next) (packet (head .seq) (map (bytesAt s) (framesFrom (head .messages) 12 s))) .waiting) next
-                    → r ≡ record { refusal = 0; end = to; direct = 0 } → Admits w s next end r after
+                pub keeps : b ≡ false → {after : List ℕ} {r : Admitted} {f : ℕ}
+                    → f ≡ freshIn (stateOf w next next) (packet (head .seq) (map (bytesAt s) (framesFrom (head .messages) 12 s))) → after ≡ windowFor (keep (stateOf w next next) (packet (head .seq) (map (bytesAt s) (framesFrom (head .messages) 12 s))) .waiting) next
+                    → r ≡ record { refusal = 0; end = to; direct = 0; fresh = f } → Admits through w s next end r after
                 unfolding keep
-                keeps apart-from {after} is answer =
-                    subst (λ (a : Admitted). Admits w s next end a after) (sym answer)
+                keeps apart-from {after} count is answer =
+                    subst (λ (a : Admitted). Admits through w s next end a after) (sym answer)
                     (taken (tested false e) end-is (sym level ∙ apart-from)
                     (is
                     ∙ ap (λ (f : ℕ → Option (List ℕ)). windowFor f next) (same-kept (stateOf w next next) x (packet (head .seq) (map (bytesAt s) (framesFrom (head .messages) 12 s))) refl refl)
-                    ∙ sym (ap (λ (q : Packet (List ℕ)). windowFor (keep x q .waiting) next) p)))
+                    ∙ sym (ap (λ (q : Packet (List ℕ)). windowFor (keep x q .waiting) next) p))
+                    (count ∙ same-fresh (stateOf w next next) x (packet (head .seq) (map (bytesAt s) (framesFrom (head .messages) 12 s))) refl refl ∙ sym (ap (freshIn x) p)))
 
-                pub passes-by : head .seq + head .messages ≤ next → {r : Admitted} → r ≡ record { refusal = 0; end = to; direct = 0 } → Admits w s next end r w
+                pub passes-by : head .seq + head .messages ≤ next → {r : Admitted} → r ≡ record { refusal = 0; end = to; direct = 0; fresh = 0 } → Admits through w s next end r w
                 unfolding keep
                 passes-by old {r} answer =
                     let ms : List (List ℕ) = map (bytesAt s) (framesFrom (head .messages) 12 s) in
@@ -308,24 +324,28 @@ module _ {w : List ℕ} (s : List ℕ) {next : ℕ} (end : ℕ) (neat : Neat w n
                     by-cases (decLt k next)
                     (λ l. kept-old x (packet (head .seq) (map (bytesAt s) (framesFrom (head .messages) 12 s))) k l)
                     (λ l. kept-none-at x (packet (head .seq) (map (bytesAt s) (framesFrom (head .messages) 12 s))) k (copy-none (packet (head .seq) (map (bytesAt s) (framesFrom (head .messages) 12 s))) k (λ c. omega (arith, c .low, c .high, n)))) in
-                    subst (λ (a : Admitted). Admits w s next end a w) (sym answer)
+                    subst (λ (a : Admitted). Admits through w s next end a w) (sym answer)
                     (left-alone (tested false e) end-is
                     (λ z. ap (λ (q : Packet (List ℕ)). length (q .messages)) p ∙ n ∙ none-new (head .seq) (head .messages) old (level-seq z))
+                    (ap (freshIn x) p ∙ fresh-past x (packet (head .seq) (map (bytesAt s) (framesFrom (head .messages) 12 s))) (omega (arith, n)))
                     (neat .same ∙ sym (ap (λ (q : Packet (List ℕ)). windowFor (keep x q .waiting) next) p ∙ ap (λ (f : ℕ → Option (List ℕ)). windowFor f next) (fun-ext same))))
                   where
                     none-new : (first many : ℕ) → first + many ≤ next → first ≡ next → many ≡ 0
                     none-new first many h at = omega arith
 
-                    level-seq : straightIn x s ≡ true → head .seq ≡ next
-                    level-seq z = eqb-true (head .seq) next (and-right (eqb end next) (eqb (head .seq) next) (sym (starts (tested false e) end-is ∙ sym level ∙ at-next) ∙ z))
+                    level-seq : throughIn through x s ≡ true → head .seq ≡ next
+                    level-seq z =
+                        eqb-true (head .seq) next
+                        (and-right (eqb end next) (eqb (head .seq) next)
+                        (and-right through (eqb end next && eqb (head .seq) next) (sym (starts (tested false e) end-is ∙ sym level ∙ at-next) ∙ z)))
 
-                pub goes-on : b ≡ true → {r : Admitted} → r ≡ record { refusal = 0; end = to; direct = head .messages } → Admits w s next end r w
+                pub goes-on : b ≡ true → {r : Admitted} → r ≡ record { refusal = 0; end = to; direct = head .messages; fresh = 0 } → Admits through w s next end r w
                 goes-on yes {r} answer =
-                    subst (λ (a : Admitted). Admits w s next end a w) (sym answer)
+                    subst (λ (a : Admitted). Admits through w s next end a w) (sym answer)
                     (goes (tested false e) end-is (sym level ∙ yes) (sym n ∙ sym (ap (λ (q : Packet (List ℕ)). length (q .messages)) p)))
 
             -- all of it is old, so nothing differs
-            pub old-on : head .seq + head .messages ≤ next → {to : ℕ} → to ≡ max end (head .seq + head .messages) → {r : Admitted} → r ≡ record { refusal = 0; end = to; direct = 0 } → Admits w s next end r w
+            pub old-on : head .seq + head .messages ≤ next → {to : ℕ} → to ≡ max end (head .seq + head .messages) → {r : Admitted} → r ≡ record { refusal = 0; end = to; direct = 0; fresh = 0 } → Admits through w s next end r w
             old-on old ends answer =
                 passes-by {differ = isSome (differFrom (waitingOf w next) (head .seq) (framesFrom (head .messages) 12 s) s)} refl
                 (none-differs (waitingOf w next) (head .seq) (framesFrom (head .messages) 12 s) s (λ j lo hi. below-none w next j (omega (arith, length-frames (head .messages) 12 s))))
@@ -335,11 +355,11 @@ module _ {w : List ℕ} (s : List ℕ) {next : ℕ} (end : ℕ) (neat : Neat w n
                 answer
 
             -- nothing is known beyond next, so nothing differs
-            pub straight-on : Known w next end → {to : ℕ} → to ≡ max end (head .seq + head .messages) → {b : Bool} → b ≡ (eqb end next && eqb (head .seq) next) → b ≡ true
-                → {r : Admitted} → r ≡ record { refusal = 0; end = to; direct = head .messages } → Admits w s next end r w
+            pub straight-on : Known w next end → {to : ℕ} → to ≡ max end (head .seq + head .messages) → {b : Bool} → b ≡ (through && (eqb end next && eqb (head .seq) next)) → b ≡ true
+                → {r : Admitted} → r ≡ record { refusal = 0; end = to; direct = head .messages; fresh = 0 } → Admits through w s next end r w
             straight-on known ends at-next yes answer =
                 goes-on {differ = isSome (differFrom (waitingOf w next) (head .seq) (framesFrom (head .messages) 12 s) s)} refl
-                (none-differs (waitingOf w next) (head .seq) (framesFrom (head .messages) 12 s) s (λ j lo hi. none-waits known (eqb-true end next (and-left (eqb end next) (eqb (head .seq) next) (sym at-next ∙ yes))) j))
+                (none-differs (waitingOf w next) (head .seq) (framesFrom (head .messages) 12 s) s (λ j lo hi. none-waits known (eqb-true end next (and-left (eqb end next) (eqb (head .seq) next) (and-right through (eqb end next && eqb (head .seq) next) (sym at-next ∙ yes)))) j))
                 ends
                 at-next
                 yes

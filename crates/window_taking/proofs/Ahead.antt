@@ -12,7 +12,7 @@ use borrow.Author.Tests.{eqb-true, eq-eqb, ne-eqb}
 use lib.Dec.{eqb}
 use lib.ListN.{length, length-map}
 use Rattle.wire.specs.Number.{Bytes, num, part}
-use Rattle.merge.specs.State.{Packet, State, copyOf, firstThere, heartbeat, keep, keptAt, packet}
+use Rattle.merge.specs.State.{Packet, State, copyOf, firstThere, heartbeat, keep, keptAt, packet, keptIf}
 use Rattle.merge.specs.Places.{numberAt}
 use Rattle.merge.proofs.Clauses.{kept-new, kept-old}
 use Rattle.merge.proofs.Copies.{copy-head, copy-none, copy-rest}
@@ -24,7 +24,7 @@ use Rattle.packet.proofs.Judgements.{and-left, and-right}
 use Rattle.window.specs.Window.{windowOf}
 use Rattle.wire.proofs.Parts.{part-long, part-part}
 use Rattle.window_taking.specs.Taking.{bytesAt, framesIn, judge, packetIn, takeTests}
-use Rattle.window_taking.specs.Keeping.{countOf, keptBy, keptIf, startsAt, straightIn, windowFor}
+use Rattle.window_taking.specs.Keeping.{countOf, keptBy, startsAt, straightIn, windowFor}
 use Rattle.window_taking.specs.Turns.{lengthAt}
 use Rattle.window_taking.specs.Ahead.{Ahead, freed}
 use Rattle.window_taking.proofs.Accepted.{judged, length-frames}
@@ -118,3 +118,10 @@ module _ {Table : Type 0} (x : State (List ℕ) Table) (s : List ℕ) (start n :
 pub level-of : {Table : Type 0} (x : State (List ℕ) Table) (p : List ℕ) → straightIn x p ≡ true → x .end ≡ x .next
 unfolding straightIn
 level-of x p e = eqb-true (x .end) (x .next) (and-left (eqb (x .end) (x .next)) (startsAt (x .next) (judge x p)) e)
+
+-- and it starts there
+pub starts-of : {Table : Type 0} (x : State (List ℕ) Table) (p : List ℕ) {q : Packet (List ℕ)} → straightIn x p ≡ true → judge x p ≡ some q → q .first ≡ x .next
+unfolding straightIn
+starts-of x p {q} e is =
+    eqb-true (q .first) (x .next)
+    (ap (startsAt (x .next)) (sym is) ∙ and-right (eqb (x .end) (x .next)) (startsAt (x .next) (judge x p)) e)

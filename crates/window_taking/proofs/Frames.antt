@@ -8,7 +8,7 @@ use native.Mathlib.Omega.{arith}
 use lib.ListN.{length, take, drop}
 use Rattle.wire.specs.Number.{part, splice}
 use Rattle.wire.proofs.Place.{splice-none}
-use Rattle.window_taking.specs.Turns.{answerIf, closing, frameAt, lengthAt, packetAt, placeAfter, placeIf, turnOf, Closes, Lies}
+use Rattle.window_taking.specs.Turns.{answerIf, closing, frameAt, fromBy, lengthAt, packetAt, placeAfter, placeIf, turnOf, Closes, Lies}
 use Rattle.window_taking.specs.declared.burst.Frame.{Frame}
 use Rattle.window_taking.specs.declared.burst.Turn.{Turn}
 use Rattle.window.proofs.Agreeing.{lent}
@@ -35,15 +35,16 @@ module _ {single : Bool} {s : List ℕ} {at : ℕ} (lies : Lies single s at) whe
     pub frame-stop : f .start + f .size ≤ length s
     frame-stop = subst (λ (g : Frame). g .start + g .size ≤ length s) (sym is) (lies .within)
 
-    frame-lent : take (f .start + f .size - f .start) (drop (f .start) s) ≡ packetAt single s at
+    pub frame-lent : take (f .start + f .size - f .start) (drop (f .start) s) ≡ packetAt single s at
     frame-lent = lent s (f .start) (f .size) frame-stop ∙ ap (λ (g : Frame). part s (g .start) (g .size)) is
 
-    pub began : (w : List ℕ) (next end left place : ℕ) {r : Admitted} → r ≡ admittedOf (stateOf w next end) (take (f .start + f .size - f .start) (drop (f .start) s))
-        → {n : ℕ} → n ≡ min (f .size) 12
-        → _≡_ {A = Turn} (record { begun = true; left = left; at = f .start + f .size; place = place; before = next; refusal = r .refusal; end = r .end; direct = r .direct; from = f .start + n }) (turnOf (stateOf w next end) single s at left place)
-    began w next end left place {r} h {n} head =
-        let e : r ≡ admittedOf (stateOf w next end) (packetAt single s at) = h ∙ ap (admittedOf (stateOf w next end)) frame-lent in
+    pub began : (w : List ℕ) (next end left place : ℕ) {r : Admitted} → r ≡ admittedOf true (stateOf w next end) (take (f .start + f .size - f .start) (drop (f .start) s))
+        → {n from : ℕ} → n ≡ min (f .size) 12 → from ≡ fromBy r (f .start + n)
+        → _≡_ {A = Turn} (record { begun = true; left = left; at = f .start + f .size; place = place; before = next; refusal = r .refusal; end = r .end; direct = r .direct; from = from }) (turnOf (stateOf w next end) single s at left place)
+    began w next end left place {r} h {n} {from} head froms =
+        let e : r ≡ admittedOf true (stateOf w next end) (packetAt single s at) = h ∙ ap (admittedOf true (stateOf w next end)) frame-lent in
         let m : n ≡ min (frameAt single s at .size) 12 = head ∙ ap (λ (g : Frame). min (g .size) 12) is in
+        let to : from ≡ fromBy (admittedOf true (stateOf w next end) (packetAt single s at)) (frameAt single s at .start + min (frameAt single s at .size) 12) = froms ∙ (λ i. fromBy (e i) (is i .start + m i)) in
         λ i.
         record {
           begun = true;
@@ -54,15 +55,15 @@ module _ {single : Bool} {s : List ℕ} {at : ℕ} (lies : Lies single s at) whe
           refusal = e i .refusal;
           end = e i .end;
           direct = e i .direct;
-          from = is i .start + m i;
+          from = to i;
         }
 
     pub head-stop : {n : ℕ} → n ≡ min (f .size) 12 → f .start + n ≤ length s
     head-stop head = omega (arith, frame-stop, head)
 
-    pub kept : (w : List ℕ) (next end : ℕ) {after : List ℕ} → after ≡ windowFor (heldBy (stateOf w next end) (take (f .start + f .size - f .start) (drop (f .start) s)) .waiting) next
-        → after ≡ windowFor (heldBy (stateOf w next end) (packetAt single s at) .waiting) next
-    kept w next end h = h ∙ ap (λ (l : List ℕ). windowFor (heldBy (stateOf w next end) l .waiting) next) frame-lent
+    pub kept : (w : List ℕ) (next end : ℕ) {after : List ℕ} → after ≡ windowFor (heldBy true (stateOf w next end) (take (f .start + f .size - f .start) (drop (f .start) s)) .waiting) next
+        → after ≡ windowFor (heldBy true (stateOf w next end) (packetAt single s at) .waiting) next
+    kept w next end h = h ∙ ap (λ (l : List ℕ). windowFor (heldBy true (stateOf w next end) l .waiting) next) frame-lent
 
 -- an answer, where a packet is at hand
 pub place-after : (turn : Turn) → turn .begun ≡ true → turn .place + 4 ≡ placeAfter turn

@@ -1,7 +1,7 @@
 -- The messages of a packet kept one after the other.
 -- Assumes nothing.
 use mathlib.Core.Path.{_≡_, refl, ap, _∙_, sym, subst}
-use mathlib.Core.Bool.{cond}
+use mathlib.Core.Bool.{cond, not, _&&_}
 use mathlib.Core.List.{List, [], _∷_, map}
 use mathlib.Core.Logic.{by-cases}
 use mathlib.Core.Option.{Option, none, some}
@@ -11,8 +11,8 @@ use native.Mathlib.Omega.{arith}
 use lib.Dec.{ltb}
 use lib.ListN.{length}
 use Rattle.wire.specs.Number.{part}
-use Rattle.merge.specs.State.{Packet, State, copyOf, firstThere, keep, keptAt, packet, single}
-use Rattle.merge.proofs.Clauses.{keep-cons, keep-heartbeat, kept-new, kept-none, kept-old}
+use Rattle.merge.specs.State.{Packet, State, copyOf, countFrom, firstThere, freshAt, freshIn, isThere, keep, keptAt, packet, single}
+use Rattle.merge.proofs.Clauses.{fresh-cons, fresh-none, fresh-small, keep-cons, keep-heartbeat, kept-new, kept-none, kept-old}
 use Rattle.merge.proofs.Copies.{copy-head, copy-other}
 use Rattle.packet.specs.Walk.{framesFrom, sizeAt, walkFrom}
 use Rattle.packet.specs.declared.walk.Walked.the-variants as walked
@@ -26,6 +26,11 @@ use Rattle.window_taking.proofs.Windows.{Within, neat-for, waiting-for,
 pub same-kept : {Table Other : Type 0} (x : State (List ℕ) Table) (y : State (List ℕ) Other) (p : Packet (List ℕ)) → x .next ≡ y .next → x .waiting ≡ y .waiting → keep x p .waiting ≡ keep y p .waiting
 unfolding keep keptAt
 same-kept x y p n e = λ i k. cond (ltb k (n i)) (e i k) (firstThere (e i k) (copyOf p k))
+
+-- so do the numbers that are fresh
+pub same-fresh : {Table Other : Type 0} (x : State (List ℕ) Table) (y : State (List ℕ) Other) (p : Packet (List ℕ)) → x .next ≡ y .next → x .waiting ≡ y .waiting → freshIn x p ≡ freshIn y p
+unfolding freshIn freshAt
+same-fresh x y p n e = λ i. countFrom (λ k. not (isThere (e i k)) && isThere (same-kept x y p n e i k)) (p .first) (length (p .messages))
 
 -- a message kept leaves all that waits whole and within the window
 module _ {waiting : ℕ → Option (List ℕ)} {next : ℕ} (within : Within waiting next) (k : ℕ) (m : List ℕ) (near : k < next + 256) (whole : Whole m) where
@@ -59,16 +64,18 @@ leftOf s k at left = packet k (map (bytesAt s) (framesFrom left at s))
 abbrev pub keptWindow : List ℕ → ℕ → Packet (List ℕ) → List ℕ
 keptWindow w next p = windowFor (keep (stateOf w next next) p .waiting) next
 
-pub record Going (w₀ w s : List ℕ) (next first messages at k left : ℕ) : Type 0 where
+pub record Going (w₀ w s : List ℕ) (next first messages at k left fresh : ℕ) : Type 0 where
   pub neat : Neat w next
   pub walk : walkFrom left at s ≡ walked.Whole
   pub near : k + left ≤ next + 256
   pub rest : keptWindow w₀ next (leftOf s first 12 messages) ≡ keptWindow w next (leftOf s k at left)
+  pub few : fresh ≤ k
+  pub count : freshIn (stateOf w₀ next next) (leftOf s first 12 messages) ≡ fresh + freshIn (stateOf w next next) (leftOf s k at left)
 
-pub going-start : {w s : List ℕ} {next first messages : ℕ} → Neat w next → Passed s next first messages → Going w w s next first messages 12 first messages
-going-start neat passed = record { neat = neat; walk = passed .walk; near = passed .near; rest = refl }
+pub going-start : {w s : List ℕ} {next first messages : ℕ} → Neat w next → Passed s next first messages → Going w w s next first messages 12 first messages 0
+going-start neat passed = record { neat = neat; walk = passed .walk; near = passed .near; rest = refl; few = omega arith; count = omega arith }
 
-pub going-end : {w₀ w s : List ℕ} {next first messages at k left : ℕ} → Going w₀ w s next first messages at k left → left ≤ 0 → w ≡ keptWindow w₀ next (leftOf s first 12 messages)
+pub going-end : {w₀ w s : List ℕ} {next first messages at k left fresh : ℕ} → Going w₀ w s next first messages at k left fresh → left ≤ 0 → w ≡ keptWindow w₀ next (leftOf s first 12 messages)
 unfolding framesFrom
 going-end {w₀} {w} {s} {next} {first} {messages} {at} {k} {left} g done =
     let z : left ≡ 0 = omega arith in
@@ -76,7 +83,14 @@ going-end {w₀} {w} {s} {next} {first} {messages} {at} {k} {left} g done =
     ap (λ (y : State (List ℕ) (Unit {0})). windowFor (y .waiting) next) (keep-heartbeat (stateOf w next next) k) in
     g .neat .same ∙ sym (g .rest ∙ ap (λ (n : ℕ). keptWindow w next (leftOf s k at n)) z ∙ nothing)
 
-module _ {w₀ w s : List ℕ} {next first messages at k left size : ℕ} (g : Going w₀ w s next first messages at k left) (some : 0 < left) (told : size ≡ sizeAt s at) where
+pub count-end : {w₀ w s : List ℕ} {next first messages at k left fresh : ℕ} → Going w₀ w s next first messages at k left fresh → left ≤ 0 → fresh ≡ freshIn (stateOf w₀ next next) (leftOf s first 12 messages)
+unfolding framesFrom
+count-end {w₀} {w} {s} {next} {first} {messages} {at} {k} {left} {fresh} g done =
+    let z : left ≡ 0 = omega arith in
+    let nothing : freshIn (stateOf w next next) (leftOf s k at left) ≡ 0 = ap (λ (n : ℕ). freshIn (stateOf w next next) (leftOf s k at n)) z ∙ fresh-none (stateOf w next next) k in
+    omega (arith, g .count, nothing)
+
+module _ {w₀ w s : List ℕ} {next first messages at k left fresh size : ℕ} (g : Going w₀ w s next first messages at k left fresh) (some : 0 < left) (told : size ≡ sizeAt s at) where
   there : Goes s at left
   there = goes s at left (g .walk) some
 
@@ -86,9 +100,12 @@ module _ {w₀ w s : List ℕ} {next first messages at k left size : ℕ} (g : G
   pub near : k < next + 256
   near = omega (arith, g .near)
 
-  pub going-next : {after : List ℕ} → after ≡ keptWindow w next (single k (part s at size)) → Going w₀ after s next first messages (at + size) (k + 1) (left - 1)
+  pub one-small : {one : ℕ} → one ≡ freshIn (stateOf w next next) (single k (part s at size)) → one ≤ 1
+  one-small is = omega (arith, is, fresh-small (stateOf w next next) k (part s at size))
+
+  pub going-next : {after : List ℕ} {one : ℕ} → one ≡ freshIn (stateOf w next next) (single k (part s at size)) → after ≡ keptWindow w next (single k (part s at size)) → Going w₀ after s next first messages (at + size) (k + 1) (left - 1) (fresh + one)
   unfolding keep
-  going-next {after} is =
+  going-next {after} {one} ones is =
       let m : List ℕ = part s at size in
       let x : State (List ℕ) (Unit {0}) = stateOf w next next in
       let y : State (List ℕ) (Unit {0}) = keep x (single k m) in
@@ -99,11 +116,15 @@ module _ {w₀ w s : List ℕ} {next first messages at k left size : ℕ} (g : G
       ap (map (bytesAt s)) (there .frames) ∙ ap (λ (n : ℕ). map (bytesAt s) ((at, n) ∷ framesFrom (left - 1) (at + n) s)) (sym told) in
       let kept : keep x (packet k (m ∷ ms)) .waiting ≡ keep (stateOf after next next) (packet (k + 1) ms) .waiting =
       ap (λ (z : State (List ℕ) (Unit {0})). z .waiting) (keep-cons x k m ms) ∙ same-kept y (stateOf after next next) (packet (k + 1) ms) refl (sym holds) in
+      let counts : freshIn x (packet k (m ∷ ms)) ≡ freshIn x (single k m) + freshIn (stateOf after next next) (packet (k + 1) ms) =
+      fresh-cons x k m ms ∙ ap (λ (n : ℕ). freshIn x (single k m) + n) (same-fresh y (stateOf after next next) (packet (k + 1) ms) refl (sym holds)) in
       record {
         neat = subst (λ (l : List ℕ). Neat l next) (sym is) (neat-for within (g .neat .top));
         walk = subst (λ (n : ℕ). walkFrom (left - 1) (at + n) s ≡ walked.Whole) (sym told) (there .rest);
         near = omega (arith, g .near);
         rest = g .rest ∙ ap (λ (l : List (List ℕ)). keptWindow w next (packet k l)) frames ∙ ap (λ (f : ℕ → Option (List ℕ)). windowFor f next) kept;
+        few = omega (arith, g .few, ones, fresh-small x k m);
+        count = omega (arith, g .count, ap (λ (l : List (List ℕ)). freshIn x (packet k l)) frames, counts, ones);
       }
 
   pub room : at + 2 ≤ length s

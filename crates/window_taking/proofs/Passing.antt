@@ -8,7 +8,7 @@ use Prim.Native.Nat.{ℕ, zero, suc, _+_, _-_, _≤_, _<_}
 use native.Mathlib.Omega.{arith}
 use borrow.Author.Tests.{ltb-false}
 use lib.Dec.{eqb, leb, ltb}
-use lib.ListN.{length, getElem?, length-map}
+use lib.ListN.{length, getD, getElem?, length-map}
 use Rattle.wire.specs.Number.{Bytes}
 use Rattle.wire.proofs.Place.{getD-small}
 use Rattle.merge.specs.State.{Packet, State, copyOf, endOf, heartbeat, packet}
@@ -22,6 +22,11 @@ use Rattle.message.specs.Whole.{Whole}
 use Rattle.window_taking.specs.Taking.{bytesAt, framesIn, judge, packetIn, takeTests, waitTests}
 use Rattle.window_taking.proofs.Accepted.{first-not, judged, length-frames, packet-numbered, second}
 use Rattle.window_taking.proofs.Walks.{Goes, goes, unbroken}
+
+-- what is lent as bytes
+pub bytes-of : (s : List ℕ) → ((i : ℕ) → getD s i 0 < 256) → Bytes s
+bytes-of [] h = tt
+bytes-of (b ∷ s) h = (h 0, bytes-of s (λ i. h (suc i)))
 
 abbrev AllWhole : List (List ℕ) → Type 0
 AllWhole [] = Unit {0}

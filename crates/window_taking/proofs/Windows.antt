@@ -13,10 +13,10 @@ use borrow.Author.Tests.{eq-eqb, ne-eqb}
 use lib.Dec.{leb, ltb}
 use lib.ListN.{length}
 use Rattle.wire.specs.Number.{part, splice}
-use Rattle.merge.specs.State.{State, single, keep, keptAt, copyOf}
+use Rattle.merge.specs.State.{State, single, keep, keptAt, copyOf, freshIn}
 use Rattle.merge.specs.Places.{InPlaces, Put, numberAt, waitingIn}
 use Rattle.merge.specs.Promise.{Agrees}
-use Rattle.merge.proofs.Clauses.{kept-again, kept-none, kept-old}
+use Rattle.merge.proofs.Clauses.{fresh-again, fresh-new, fresh-old, kept-again, kept-none, kept-old}
 use Rattle.merge.proofs.Copies.{copy-other}
 use Rattle.merge.proofs.Places.{held-place, keep-put, number-high, number-low, number-place, place-unique, waiting-above, waiting-below, waiting-inside}
 use Rattle.window.specs.Window.{sizeAt, startOf, waitsAt, windowOf}
@@ -117,11 +117,20 @@ module _ {w s : List ℕ} {next k at size : ℕ} (neat : Neat w next) (framed : 
   unfolding keep
   unchanged same = neat .same ∙ ap (λ (f : ℕ → Option (List ℕ)). windowFor f next) (sym (fun-ext same))
 
+  pub count-old : k < next → 0 ≡ freshIn x (single k m)
+  count-old below = sym (fresh-old x k m below)
+
   pub passed-over : k < next → w ≡ windowFor (keep x (single k m) .waiting) next
   passed-over below =
       unchanged (λ j. by-cases (decLt j next) (λ l. kept-old x (single k m) j l) (λ l. kept-none x (single k m) j (copy-other k m j (λ e. omega arith))))
 
   module _ (from : next ≤ k) where
+    pub count-again : (sizeAt w (k % 256) ≡ 0 → ⊥) → 0 ≡ freshIn x (single k m)
+    count-again used = sym (fresh-again x k m (waits-place w next k from near ∙ place-used w (k % 256) used))
+
+    pub count-new : sizeAt w (k % 256) ≡ 0 → 1 ≡ freshIn x (single k m)
+    count-new free = sym (fresh-new x k m from (waits-place w next k from near ∙ place-free w (k % 256) free))
+
     pub stays : (sizeAt w (k % 256) ≡ 0 → ⊥) → w ≡ windowFor (keep x (single k m) .waiting) next
     stays used =
         unchanged

@@ -2,13 +2,13 @@
 -- Assumes nothing.
 use mathlib.Core.Path.{_≡_}
 use mathlib.Core.Bool.{Bool, true, false, cond, _&&_}
-use mathlib.Core.List.{List}
+use mathlib.Core.List.{List, [], _∷_}
 use mathlib.Core.Option.{Option, none, some}
 use Prim.Native.Nat.{ℕ, _+_, _≤_, _<_}
 use lib.Dec.{eqb}
 use lib.ListN.{length}
 use Rattle.wire.specs.Number.{part}
-use Rattle.merge.specs.State.{Packet, State, keep}
+use Rattle.merge.specs.State.{Packet, State, freshIf, keptIf}
 use Rattle.merge.specs.Places.{waitingIn, numberAt}
 use Rattle.packet.specs.Header.{decided}
 use Rattle.packet.specs.Walk.{walkFrom}
@@ -63,27 +63,37 @@ countOf (some p) = length (p .messages)
 
 module _ {Table : Type 0} where
   -- the session with a packet kept, if it is one that is taken
-  unfoldable pub keptIf : State (List ℕ) Table → Option (Packet (List ℕ)) → State (List ℕ) Table
-  keptIf x none = x
-  keptIf x (some p) = keep x p
-
   abbrev pub keptBy : State (List ℕ) Table → List ℕ → State (List ℕ) Table
   keptBy x s = keptIf x (judge x s)
 
-  -- where nothing is known beyond next and the packet starts there, its messages are applied straight from it, and none is kept
+  -- how many of its numbers now wait that did not before
+  abbrev pub freshBy : State (List ℕ) Table → List ℕ → ℕ
+  freshBy x s = freshIf x (judge x s)
+
+  -- the packets of a list kept one after the other
+  unfoldable pub keptAll : State (List ℕ) Table → List (List ℕ) → State (List ℕ) Table
+  keptAll x [] = x
+  keptAll x (s ∷ ss) = keptAll (keptBy x s) ss
+
+  -- where nothing is known beyond next and the packet starts there, its messages can be applied straight from it, and none is kept
   unfoldable pub straightIn : State (List ℕ) Table → List ℕ → Bool
   straightIn x s = eqb (x .end) (x .next) && startsAt (x .next) (judge x s)
 
-  -- what the window holds then
-  unfoldable pub heldBy : State (List ℕ) Table → List ℕ → State (List ℕ) Table
-  heldBy x s = cond (straightIn x s) x (keptBy x s)
+  -- so they are, where they are to be applied at once
+  abbrev pub throughIn : Bool → State (List ℕ) Table → List ℕ → Bool
+  throughIn through x s = through && straightIn x s
 
-  -- the answer: the test that refuses the packet, 0 where none does, end behind it, and how many messages are applied straight
-  -- from it
-  unfoldable pub admittedOf : State (List ℕ) Table → List ℕ → Admitted
-  admittedOf x s =
+  -- what the window holds then
+  unfoldable pub heldBy : Bool → State (List ℕ) Table → List ℕ → State (List ℕ) Table
+  heldBy through x s = cond (throughIn through x s) x (keptBy x s)
+
+  -- the answer: the test that refuses the packet, 0 where none does, end behind it, how many messages are applied straight from it,
+  -- and how many numbers now wait that did not before
+  unfoldable pub admittedOf : Bool → State (List ℕ) Table → List ℕ → Admitted
+  admittedOf through x s =
       record {
         refusal = decided (takeTests x s) .0;
         end = keptBy x s .end;
-        direct = cond (straightIn x s) (countOf (judge x s)) 0;
+        direct = cond (throughIn through x s) (countOf (judge x s)) 0;
+        fresh = cond (throughIn through x s) 0 (freshBy x s);
       }

@@ -8,7 +8,7 @@ use Prim.Native.Nat.{ℕ, zero, suc, _+_}
 use lib.Dec.{eqb, leb}
 use lib.ListN.{length}
 use Rattle.wire.specs.Number.{part}
-use Rattle.merge.specs.State.{Feed, Packet, State, Channel, packet, heartbeat}
+use Rattle.merge.specs.State.{Feed, Packet, State, Channel, packet, heartbeat, lowestIn}
 use Rattle.packet.specs.Header as header
 use Rattle.packet.specs.Header.{Test, decided, headerIn}
 use Rattle.packet.specs.Judging.{lastOf, packetTests, unlessHeartbeat}
@@ -52,7 +52,11 @@ orZero none = 0
 orZero (some at) = at
 
 module _ {Table : Type 0} where
-  -- 9 the last number is at or above next + 256
+  -- the lowest number not carried; from next up to it all numbers wait
+  abbrev pub lowestOf : State (List ℕ) Table → ℕ
+  lowestOf x = lowestIn 256 x
+
+  -- 9 the last number is at or above next + 256, however far the lowest number not carried is
   abbrev pub nine : State (List ℕ) Table → List ℕ → Test
   nine x s = (leb (x .next + 256) (lastOf (headerIn s .seq) (headerIn s .messages)), (9, 2))
 

@@ -8,6 +8,7 @@ use lib.ListN.{length}
 use Rattle.wire.specs.Number.{num, part}
 use Rattle.merge.specs.State as merge
 use Rattle.window_taking.specs.Keeping.{admittedOf}
+use Rattle.window_taking.specs.declared.admitting.Admitted.{Admitted}
 use Rattle.window_taking.specs.declared.burst.Frame.{Frame}
 use Rattle.window_taking.specs.declared.burst.Turn.{Turn}
 
@@ -49,6 +50,11 @@ pub record Lies (single : Bool) (s : List ℕ) (at : ℕ) : Type 0 where
   pub start : frameAt single s at .start ≤ length s
   pub within : behind single s at ≤ length s
 
+-- where the messages begin that are applied straight from the packet; where none is, how many of those that wait are due: none behind
+-- a packet that is refused, and else as many as can wait
+abbrev pub fromBy : Admitted → ℕ → ℕ
+fromBy admitted begin = cond (eqb (admitted .direct) 0) (cond (eqb (admitted .refusal) 0) 256 0) begin
+
 module _ {Table : Type 0} where
   -- the turn of the packet at a place
   abbrev pub turnOf : merge.State (List ℕ) Table → Bool → List ℕ → ℕ → ℕ → ℕ → Turn
@@ -59,10 +65,10 @@ module _ {Table : Type 0} where
         at = behind single s at;
         place = place;
         before = x .next;
-        refusal = admittedOf x (packetAt single s at) .refusal;
-        end = admittedOf x (packetAt single s at) .end;
-        direct = admittedOf x (packetAt single s at) .direct;
-        from = frameAt single s at .start + min (frameAt single s at .size) 12;
+        refusal = admittedOf true x (packetAt single s at) .refusal;
+        end = admittedOf true x (packetAt single s at) .end;
+        direct = admittedOf true x (packetAt single s at) .direct;
+        from = fromBy (admittedOf true x (packetAt single s at)) (frameAt single s at .start + min (frameAt single s at .size) 12);
       }
 
 -- before the first packet

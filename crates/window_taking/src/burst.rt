@@ -2,7 +2,8 @@
 
 // Where a burst is: whether a packet is at hand; how many follow; where the next one's bytes begin;
 // where the answer at hand goes; and of the packet at hand, next before it, its refusal, end behind it,
-// how many of its messages are applied straight from it and where they begin.
+// how many of its messages are applied straight from it and where they begin or, where none is, how many
+// of those that wait are due.
 pub struct Turn {
     pub begun: bool,
     pub left: usize,

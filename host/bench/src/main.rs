@@ -3,6 +3,7 @@
 //! cargo run --release -p bench [PACKETS] [ROUNDS]
 
 mod questions;
+mod ticks;
 mod timing;
 
 use compare::capture::Capture;
@@ -124,6 +125,7 @@ fn packets_of(name: &str, capture: &Capture, rounds: usize) {
         };
         row(&name, library.typical() / count, twin.typical() / count);
     }
+    ticks::measure(capture, rounds);
 }
 
 /// The packets of each piece of a capture; a burst is not cut.
@@ -137,13 +139,13 @@ fn pieces(capture: &Capture, each: usize) -> impl Iterator<Item = (usize, Range<
 
 /// Sessions that stay where they are while others are opened.
 #[derive(Default)]
-struct Kept {
+pub struct Kept {
     library: Vec<Session>,
     twin: Vec<Box<twin::Session>>,
 }
 
 impl Kept {
-    fn fresh(&mut self) -> (&mut Session, &mut twin::Session) {
+    pub fn fresh(&mut self) -> (&mut Session, &mut twin::Session) {
         self.library.push(Session::open(OPENING));
         self.twin.push(Box::new(twin::Session::open(OPENING)));
         let newest = "one was just put there";
@@ -261,14 +263,12 @@ fn twin_bursts(
         times.push(piece, timed(taking));
     }
     for (row, expected) in rows.iter().zip(expected) {
-        let applied = expected.answer.unwrap_or(0);
-        let refusal = expected.answer.err().unwrap_or(0) as u64;
-        assert_eq!(*row, [applied, refusal, expected.next, expected.end]);
+        assert_eq!(*row, expected.numbers());
     }
 }
 
 #[inline(always)]
-fn first_packet(bytes: &[u8]) -> Option<(&[u8], &[u8])> {
+pub fn first_packet(bytes: &[u8]) -> Option<(&[u8], &[u8])> {
     let (length, behind) = bytes.split_first_chunk::<2>()?;
     behind.split_at_checked(u16::from_be_bytes(*length) as usize)
 }

@@ -52,17 +52,6 @@ impl Capture {
     pub fn packets(&self) -> impl Iterator<Item = &[u8]> {
         (0..self.len()).map(|index| self.packet(index))
     }
-
-    /// The first packets alone.
-    pub fn first(&self, count: usize) -> Capture {
-        self.packets().take(count).collect()
-    }
-
-    /// All packets but one.
-    pub fn without(&self, index: usize) -> Capture {
-        let kept = self.packets().enumerate().filter(|(at, _)| *at != index);
-        kept.map(|(_, packet)| packet).collect()
-    }
 }
 
 impl<'a> FromIterator<&'a [u8]> for Capture {

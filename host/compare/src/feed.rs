@@ -4,6 +4,7 @@
 
 use crate::capture::Capture;
 use crate::night::{unlisted, Manners, Night};
+use crate::pair::Call;
 use crate::random::Random;
 use twin::packet::{Messages, HEADER, LARGEST};
 use twin::Session;
@@ -25,9 +26,10 @@ enum Aim {
     Damage,
     Raw,
     Overflow,
+    Fill,
 }
 
-const AIMS: [Aim; 11] = [
+const AIMS: [Aim; 12] = [
     Aim::InOrder,
     Aim::Overlap,
     Aim::Old,
@@ -39,16 +41,19 @@ const AIMS: [Aim; 11] = [
     Aim::Damage,
     Aim::Raw,
     Aim::Overflow,
+    Aim::Fill,
 ];
 
-const CALM: [u64; 11] = [900, 20, 20, 0, 0, 0, 30, 0, 0, 0, 0];
-const LOSSY: [u64; 11] = [420, 120, 60, 300, 20, 5, 30, 5, 0, 0, 1];
-const ROUGH: [u64; 11] = [300, 80, 40, 200, 60, 10, 50, 80, 200, 30, 10];
+const CALM: [u64; 12] = [900, 20, 20, 0, 0, 0, 30, 0, 0, 0, 0, 0];
+const LOSSY: [u64; 12] = [420, 120, 60, 300, 20, 5, 30, 5, 0, 0, 1, 0];
+const ROUGH: [u64; 12] = [300, 80, 40, 200, 60, 10, 50, 80, 200, 30, 10, 0];
+/// For sessions in which messages wait in front: the window is filled, and copies of what waits come back.
+const SPLIT: [u64; 12] = [400, 100, 40, 100, 40, 10, 50, 70, 60, 10, 4, 20];
 
 pub struct Feed {
     random: Random,
     night: Night,
-    weights: [u64; 11],
+    weights: [u64; 12],
     /// Most messages in a packet of the common kind.
     most: u64,
     opening: u64,
@@ -70,7 +75,14 @@ pub fn capture(seed: u64, packets: usize) -> (u32, Capture) {
     (opening, feed.capture(packets))
 }
 
-fn opening(random: &mut Random) -> u32 {
+/// A feed for sessions that keep and apply, from a number on.
+pub(crate) fn split(random: &mut Random, opening: u32) -> Feed {
+    let manners = Manners::any(random);
+    let most = random.pick(&[1, 4, 12, 40]);
+    Feed::new(Random::new(random.number()), manners, SPLIT, most, opening)
+}
+
+pub(crate) fn opening(random: &mut Random) -> u32 {
     match random.below(10) {
         0 => 0,
         1 => 1,
@@ -86,7 +98,7 @@ impl Feed {
     fn new(
         mut random: Random,
         manners: Manners,
-        weights: [u64; 11],
+        weights: [u64; 12],
         most: u64,
         opening: u32,
     ) -> Feed {
@@ -106,27 +118,36 @@ impl Feed {
     fn capture(&mut self, packets: usize) -> Capture {
         let mut capture = Capture::new();
         let mut session = Box::new(Session::open(self.opening as u32));
-        let mut packet = Vec::new();
         for _ in 0..packets {
-            let aim = AIMS[self.random.weighed(&self.weights)];
-            self.make(aim, &session, &mut packet);
-            let before = session.next();
-            let taken = session.take(&packet);
-            if taken.is_ok() && matches!(aim, Aim::Damage | Aim::Raw | Aim::Conflict) {
-                self.learn(&packet, before);
-            }
-            capture.push(&packet);
+            capture.push(&self.packet(&mut session, Call::Take));
         }
         capture
     }
 
+    /// The next packet, which the session takes or keeps.
+    pub(crate) fn packet(&mut self, session: &mut Session, call: Call) -> Vec<u8> {
+        let mut packet = Vec::new();
+        let aim = AIMS[self.random.weighed(&self.weights)];
+        self.make(aim, session, &mut packet);
+        let before = session.next();
+        let answer = match call {
+            Call::Take => session.take(&packet),
+            Call::Keep => session.keep(&packet),
+        };
+        if answer.is_ok() && matches!(aim, Aim::Damage | Aim::Raw | Aim::Conflict) {
+            self.learn(&packet, before);
+        }
+        packet
+    }
+
     fn make(&mut self, aim: Aim, session: &Session, out: &mut Vec<u8>) {
-        let next = session.next();
+        // Where packets are taken, nothing waits at next and the two are one.
+        let (next, lowest) = (session.next(), session.lowest());
         match aim {
-            Aim::InOrder => self.common(next, out),
+            Aim::InOrder => self.common(lowest, out),
             Aim::Overlap => {
                 let back = self.random.below(12);
-                self.common(next.saturating_sub(back), out);
+                self.common(lowest.saturating_sub(back), out);
             }
             Aim::Old => {
                 let back = self.random.pick(&[1, 2, 5, 30, 300, 70_000]);
@@ -138,7 +159,7 @@ impl Feed {
                 } else {
                     self.random.between(1, 260)
                 };
-                self.common(next + ahead, out);
+                self.common(lowest + ahead, out);
             }
             Aim::Edge => {
                 let last = next + self.random.pick(&[254, 255, 255, 256, 256, 257]);
@@ -147,7 +168,7 @@ impl Feed {
             }
             Aim::Crowd => {
                 self.tiny = 520;
-                let first = next + self.random.below(3);
+                let first = lowest + self.random.below(3);
                 let count = self.random.pick(&[200, 254, 255]);
                 self.pack(first, count, out);
             }
@@ -166,6 +187,10 @@ impl Feed {
                     out[7] += 1;
                 }
                 fix_size(out);
+            }
+            Aim::Fill => {
+                self.tiny = 256;
+                self.pack(lowest, (next + WINDOW - lowest).clamp(1, 255), out);
             }
         }
     }
@@ -257,12 +282,17 @@ impl Feed {
     /// A copy of a waiting number that differs from what waits.
     fn conflict(&mut self, session: &Session, out: &mut Vec<u8>) {
         let next = session.next();
-        let from = self.random.between(1, 30);
+        let in_front = session.waits(next) && self.random.chance(500);
+        let from = if in_front {
+            0
+        } else {
+            self.random.between(1, 30)
+        };
         let waiting = (from..WINDOW).map(|ahead| next + ahead);
         let Some(number) = waiting.clone().find(|number| session.waits(*number)) else {
             return self.common(next + 1, out);
         };
-        let first = (number - self.random.below(3)).max(next);
+        let first = number.saturating_sub(self.random.below(3)).max(next);
         let count = number - first + 1 + self.random.below(2);
         self.pack(first, count, out);
         let at = message_at(out, (number - first) as usize);

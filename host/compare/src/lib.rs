@@ -5,4 +5,5 @@ pub mod feed;
 pub mod night;
 pub mod pair;
 pub mod random;
+pub mod steps;
 pub mod ways;

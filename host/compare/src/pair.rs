@@ -3,7 +3,8 @@
 use jangsebit::{Answer, Burst, Question, Quote, Refusal};
 use std::fmt::Debug;
 
-/// The answer to one packet, from either.
+/// The answer to one packet, from either: how many messages it applied or, where it was kept alone, how many wait that
+/// did not before.
 #[derive(Clone, Copy, Debug, PartialEq, Eq)]
 pub struct Row {
     pub answer: Result<u64, u8>,
@@ -19,10 +20,32 @@ impl Row {
             end: answer.end(),
         }
     }
+
+    /// The same of a burst that keeps.
+    pub fn from_kept(answer: &Answer) -> Row {
+        Row {
+            answer: fresh(answer.fresh()),
+            ..Row::from_answer(answer)
+        }
+    }
+
+    /// The four numbers that a burst answers.
+    pub fn numbers(&self) -> [u64; 4] {
+        let count = self.answer.unwrap_or(0);
+        let refusal = self.answer.err().unwrap_or(0);
+        [count, refusal.into(), self.next, self.end]
+    }
 }
 
 /// A call whose answers differ.
 pub type Difference = String;
+
+/// What is done with a packet.
+#[derive(Clone, Copy, Debug)]
+pub enum Call {
+    Take,
+    Keep,
+}
 
 pub struct Pair {
     library: jangsebit::Session,
@@ -43,7 +66,7 @@ fn equal<T: PartialEq + Debug>(call: impl Debug, library: T, twin: T) -> Result<
 }
 
 /// That a refused call left the library's session as it was, byte for byte.
-fn kept(before: &jangsebit::Session, after: &jangsebit::Session) -> Result<(), Difference> {
+fn unchanged(before: &jangsebit::Session, after: &jangsebit::Session) -> Result<(), Difference> {
     if before == after {
         return Ok(());
     }
@@ -54,6 +77,10 @@ fn applied(answer: Result<jangsebit::Applied, Refusal>) -> Result<u64, u8> {
     answer
         .map(|applied| applied.messages)
         .map_err(Refusal::number)
+}
+
+fn fresh(answer: Result<jangsebit::Kept, Refusal>) -> Result<u64, u8> {
+    answer.map(|kept| kept.fresh).map_err(Refusal::number)
 }
 
 fn order(order: &jangsebit::Order) -> twin::Order {
@@ -121,9 +148,35 @@ impl Pair {
         &self.twin
     }
 
-    fn twin_row(&mut self, packet: &[u8]) -> Row {
+    fn row(&self, answer: Result<u64, u8>) -> Row {
+        let numbers = self.library.numbers();
         Row {
-            answer: self.twin.take(packet).map_err(|refusal| refusal.0),
+            answer,
+            next: numbers.next,
+            end: numbers.end,
+        }
+    }
+
+    fn library_burst(
+        &mut self,
+        call: Call,
+        bytes: &[u8],
+        told: usize,
+        answers: &mut [Answer],
+    ) -> Result<Burst, Refusal> {
+        match call {
+            Call::Take => self.library.burst(bytes, told, answers),
+            Call::Keep => self.library.keep_burst(bytes, told, answers),
+        }
+    }
+
+    fn twin_row(&mut self, call: Call, packet: &[u8]) -> Row {
+        let answer = match call {
+            Call::Take => self.twin.take(packet),
+            Call::Keep => self.twin.keep(packet),
+        };
+        Row {
+            answer: answer.map_err(|refusal| refusal.0),
             next: self.twin.next(),
             end: self.twin.end(),
         }
@@ -132,30 +185,65 @@ impl Pair {
     /// One packet in one call.
     pub fn take(&mut self, packet: &[u8]) -> Result<Row, Difference> {
         let answer = applied(self.library.take(packet));
-        let numbers = self.library.numbers();
-        let row = Row {
-            answer,
-            next: numbers.next,
-            end: numbers.end,
-        };
-        let expected = self.twin_row(packet);
-        agreed(packet, row, expected)
+        let row = self.row(answer);
+        let expected = self.twin_row(Call::Take, packet);
+        agreed(("take", packet), row, expected)
     }
 
-    /// The same; a refusal must have left the library's session as it was.
+    /// The same; a refusal must have left the library's session as it was, and otherwise it must hold, byte for byte,
+    /// what keeping and then applying to the end give.
     pub fn take_watched(&mut self, packet: &[u8]) -> Result<Row, Difference> {
-        let before = self.library.clone();
+        let mut split = self.library.clone();
         let row = self.take(packet)?;
         if row.answer.is_err() {
-            kept(&before, &self.library)?;
+            unchanged(&split, &self.library)?;
+        }
+        let kept = split.keep(packet);
+        let answer = applied(kept.map(|_| split.apply(u64::MAX)));
+        equal(("keep and apply", packet), answer, row.answer)?;
+        if split == self.library {
+            return Ok(row);
+        }
+        Err(format!(
+            "{packet:02x?}: taken, the library's session differs from kept and applied"
+        ))
+    }
+
+    /// One packet kept; a refusal must have left the library's session as it was.
+    pub fn keep(&mut self, packet: &[u8]) -> Result<Row, Difference> {
+        let before = self.library.clone();
+        let answer = fresh(self.library.keep(packet));
+        let row = self.row(answer);
+        let expected = self.twin_row(Call::Keep, packet);
+        agreed(("keep", packet), row, expected)?;
+        if row.answer.is_err() {
+            unchanged(&before, &self.library)?;
         }
         Ok(row)
     }
 
+    /// Applies up to so many messages; where none is, the library's session must be as it was.
+    pub fn apply(&mut self, count: u64) -> Result<u64, Difference> {
+        let before = self.library.clone();
+        let answer = self.library.apply(count).messages;
+        let applied = agreed(("apply", count), answer, self.twin.apply(count))?;
+        equal("next", self.library.numbers().next, self.twin.next())?;
+        if applied == 0 {
+            unchanged(&before, &self.library)?;
+        }
+        Ok(applied)
+    }
+
+    /// The lowest number that no accepted packet has carried.
+    pub fn lowest(&self) -> Result<u64, Difference> {
+        agreed("lowest", self.library.lowest(), self.twin.lowest())
+    }
+
     /// Packets in one call, `bytes` as a burst has them from the first of `packets` on, with a list for a few answers
-    /// more. The call is told how many to take.
+    /// more. The call is told how many to take or to keep.
     pub fn burst<'a>(
         &mut self,
+        call: Call,
         bytes: &[u8],
         packets: impl ExactSizeIterator<Item = &'a [u8]>,
         told: usize,
@@ -164,12 +252,16 @@ impl Pair {
         let mut answers = std::mem::take(&mut self.answers);
         answers.clear();
         answers.resize(told + 3, Answer::default());
-        let burst = self.library.burst(bytes, told, &mut answers);
+        let burst = self.library_burst(call, bytes, told, &mut answers);
         let mut taken = 0;
         for (packet, answer) in packets.zip(&answers) {
-            let expected = self.twin_row(packet);
+            let expected = self.twin_row(call, packet);
             taken += 2 + packet.len();
-            equal(packet, Row::from_answer(answer), expected)?;
+            let row = match call {
+                Call::Take => Row::from_answer(answer),
+                Call::Keep => Row::from_kept(answer),
+            };
+            equal((call, packet), row, expected)?;
         }
         let expected = Burst {
             packets: count,
@@ -182,18 +274,45 @@ impl Pair {
         Ok(())
     }
 
-    /// Packets in one call whose answers do not fit: neither session takes one.
+    /// The same; the library's session must hold, byte for byte, what a call for each packet gives.
+    pub fn burst_watched<'a>(
+        &mut self,
+        call: Call,
+        bytes: &[u8],
+        packets: impl ExactSizeIterator<Item = &'a [u8]> + Clone,
+        told: usize,
+    ) -> Result<(), Difference> {
+        let mut single = self.library.clone();
+        self.burst(call, bytes, packets.clone(), told)?;
+        for packet in packets {
+            match call {
+                Call::Take => drop(single.take(packet)),
+                Call::Keep => drop(single.keep(packet)),
+            }
+        }
+        if single == self.library {
+            return Ok(());
+        }
+        Err(format!(
+            "{call:?}: a burst's session differs from that of single calls"
+        ))
+    }
+
+    /// Packets in one call whose answers do not fit: neither session takes or keeps one.
     pub fn burst_too_short(&mut self, bytes: &[u8], count: usize) -> Result<(), Difference> {
         let before = self.library.clone();
         let mut answers = vec![Answer::default(); count - 1];
-        let burst = self.library.burst(bytes, count, &mut answers);
-        equal("short burst", burst, Err(Refusal::BufferTooShort))?;
-        let stay = answers.iter().all(|answer| *answer == Answer::default());
-        equal("its answers", stay, true)?;
-        kept(&before, &self.library)
+        for call in [Call::Take, Call::Keep] {
+            let burst = self.library_burst(call, bytes, count, &mut answers);
+            equal("short burst", burst, Err(Refusal::BufferTooShort))?;
+            let stay = answers.iter().all(|answer| *answer == Answer::default());
+            equal("its answers", stay, true)?;
+            unchanged(&before, &self.library)?;
+        }
+        Ok(())
     }
 
-    /// next, end, the tables' counts, the code and the faults.
+    /// next, end, the lowest number not carried, the tables' counts, the code and the faults.
     pub fn numbers(&self) -> Result<(), Difference> {
         let numbers = self.library.numbers();
         let faults = self.twin.faults();
@@ -204,6 +323,7 @@ impl Pair {
         let expected = (faults.count > 0).then_some((faults.number, faults.reason));
         equal("next", numbers.next, self.twin.next())?;
         equal("end", numbers.end, self.twin.end())?;
+        self.lowest()?;
         equal("live", numbers.live, self.twin.book().live())?;
         equal("held", numbers.held, self.twin.book().held_insides().len())?;
         equal("code", numbers.code, self.twin.code().into())?;

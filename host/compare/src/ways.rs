@@ -1,8 +1,10 @@
-//! How the packets of a capture are handed in: one a call, in bursts, or mixed and with questions in between.
+//! How the packets of a capture are handed in: one a call, in bursts, or mixed and with questions in between; taken,
+//! or kept and applied in portions.
 
 use crate::capture::Capture;
-use crate::pair::{id_of, Difference, Pair};
+use crate::pair::{id_of, Call, Difference, Pair};
 use crate::random::Random;
+use crate::steps::COUNTS;
 use jangsebit::{Question, Session};
 
 #[derive(Clone, Copy, Debug)]
@@ -12,6 +14,8 @@ pub enum Way {
     Bursts(usize),
     /// Calls, bursts of any size and questions, as they follow from a seed.
     Mixed(u64),
+    /// The same by a loop that keeps most packets, and applies in portions.
+    Split(u64),
 }
 
 /// What a run came to, beside that nothing differed.
@@ -49,10 +53,11 @@ pub fn run(opening: u32, capture: &Capture, way: Way) -> Result<Tally, Differenc
         Way::Bursts(each) => {
             let mut from = 0;
             while from < capture.len() {
-                from = burst(&mut pair, capture, from, each)?;
+                from = burst(&mut pair, Call::Take, capture, from, each)?;
             }
         }
         Way::Mixed(seed) => mixed(&mut pair, capture, &mut Random::new(seed), &mut tally)?,
+        Way::Split(seed) => split(&mut pair, capture, &mut Random::new(seed), &mut tally)?,
     }
     pair.tables()?;
     pair.gaps()?;
@@ -63,6 +68,7 @@ pub fn run(opening: u32, capture: &Capture, way: Way) -> Result<Tally, Differenc
 /// One burst from a packet on, of all bytes there are; the answer is where the next begins.
 fn burst(
     pair: &mut Pair,
+    call: Call,
     capture: &Capture,
     from: usize,
     each: usize,
@@ -75,13 +81,14 @@ fn burst(
     } else {
         each
     };
-    pair.burst(capture.part(from..capture.len()), packets, told)?;
+    pair.burst(call, capture.part(from..capture.len()), packets, told)?;
     Ok(behind)
 }
 
 /// The same over bytes that end within the next packet.
 fn cut_burst(
     pair: &mut Pair,
+    call: Call,
     capture: &Capture,
     from: usize,
     random: &mut Random,
@@ -94,7 +101,7 @@ fn cut_burst(
         true => 0,
         false => random.below(2 + capture.packet(behind).len() as u64) as usize,
     };
-    pair.burst(&rest[..whole + more], packets, behind - from + 7)?;
+    pair.burst(call, &rest[..whole + more], packets, behind - from + 7)?;
     Ok(behind)
 }
 
@@ -119,10 +126,10 @@ fn mixed(
                 pair.take(capture.packet(from))?;
                 from += 1;
             }
-            24..=26 => from = cut_burst(pair, capture, from, random)?,
+            24..=26 => from = cut_burst(pair, Call::Take, capture, from, random)?,
             _ => {
                 let each = random.pick(&[0, 1, 2, 3, 5, 8, 13, 40]);
-                from = burst(pair, capture, from, each)?;
+                from = burst(pair, Call::Take, capture, from, each)?;
             }
         }
         for _ in 0..random.pick(&[0, 0, 1, 3]) {
@@ -130,6 +137,42 @@ fn mixed(
         }
     }
     Ok(())
+}
+
+fn split(
+    pair: &mut Pair,
+    capture: &Capture,
+    random: &mut Random,
+    tally: &mut Tally,
+) -> Result<(), Difference> {
+    let mut from = 0;
+    while from < capture.len() {
+        let each = random.pick(&[0, 1, 2, 3, 5, 8]);
+        match random.below(40) {
+            0 | 1 => {
+                pair.take_watched(capture.packet(from))?;
+                from += 1;
+            }
+            2 => from = burst(pair, Call::Take, capture, from, each)?,
+            3 | 4 => from = cut_burst(pair, Call::Keep, capture, from, random)?,
+            5..=19 => from = burst(pair, Call::Keep, capture, from, each)?,
+            _ => {
+                pair.keep(capture.packet(from))?;
+                from += 1;
+            }
+        }
+        if random.chance(200) {
+            pair.apply(random.pick(&COUNTS))?;
+        }
+        // A loop that applies too late loses what the window has no place for.
+        while pair.lowest()? - pair.twin().next() > 60 {
+            pair.apply(random.pick(&COUNTS))?;
+        }
+        for _ in 0..random.pick(&[0, 0, 1, 3]) {
+            ask(pair, capture, random, tally)?;
+        }
+    }
+    pair.apply(u64::MAX).map(drop)
 }
 
 fn ask(

@@ -6,9 +6,11 @@ use compare::capture::Capture;
 use compare::feed;
 use compare::night::Manners;
 use compare::pair::Pair;
+use compare::steps::{self, steps, Step};
 use compare::ways::{run, Tally, Way};
 
 const PACKETS: usize = 500;
+const CALLS: usize = 200;
 const SEED: u64 = 0x0507_2026;
 
 fn from_environment(name: &str, otherwise: u64) -> u64 {
@@ -20,26 +22,24 @@ fn from_environment(name: &str, otherwise: u64) -> u64 {
     }
 }
 
-/// The fewest packets that still differ: the shortest beginning, then one after the other left out.
-fn shrunk(opening: u32, capture: &Capture, way: Way) -> Capture {
-    let differs = |capture: &Capture| run(opening, capture, way).is_err();
-    let (mut low, mut high) = (0, capture.len());
+/// The fewest packets or calls that still differ: the shortest beginning, then one after the other left out.
+fn shrunk<T: Clone>(all: &[T], differs: impl Fn(&[T]) -> bool) -> Vec<T> {
+    let (mut low, mut high) = (0, all.len());
     while low < high {
         let middle = (low + high) / 2;
-        if differs(&capture.first(middle)) {
+        if differs(&all[..middle]) {
             high = middle;
         } else {
             low = middle + 1;
         }
     }
-    let mut small = capture.first(low);
+    let mut small = all[..low].to_vec();
     if !differs(&small) {
-        return capture.clone();
+        return all.to_vec();
     }
-    let mut index = small.len();
-    while index > 0 {
-        index -= 1;
-        let fewer = small.without(index);
+    for index in (0..small.len()).rev() {
+        let mut fewer = small.clone();
+        fewer.remove(index);
         if differs(&fewer) {
             small = fewer;
         }
@@ -54,12 +54,34 @@ fn compare(seed: u64, opening: u32, capture: &Capture, way: Way) -> Tally {
         Err(difference) => difference,
     };
     println!("seed {seed}, {way:?}, sessions opened at {opening}: {difference}");
-    let small = shrunk(opening, capture, way);
+    let packets: Vec<&[u8]> = capture.packets().collect();
+    let capture_of = |packets: &[&[u8]]| packets.iter().copied().collect::<Capture>();
+    let small = capture_of(&shrunk(&packets, |few| {
+        run(opening, &capture_of(few), way).is_err()
+    }));
     println!("shrunk from {} to {} packets:", capture.len(), small.len());
     for packet in small.packets() {
         println!("  {}", hex(packet));
     }
     if let Err(difference) = run(opening, &small, way) {
+        println!("{difference}");
+    }
+    panic!("seed {seed}: library and twin differ");
+}
+
+/// Compares the two over calls; where they differ, says so with the calls that it takes.
+fn compare_calls(seed: u64, all: &[Step]) -> u64 {
+    let difference = match steps::run(all) {
+        Ok(packets) => return packets,
+        Err(difference) => difference,
+    };
+    println!("seed {seed}: {difference}");
+    let small = shrunk(all, |few| steps::run(few).is_err());
+    println!("shrunk from {} to {} calls:", all.len(), small.len());
+    for step in &small {
+        println!("  {step:?}");
+    }
+    if let Err(difference) = steps::run(&small) {
         println!("{difference}");
     }
     panic!("seed {seed}: library and twin differ");
@@ -106,6 +128,33 @@ fn mixed() {
     assert!(captures < 100 || all.known > 10_000 && all.requests > 10_000);
 }
 
+/// Packets kept and taken, one a call and in bursts, what waits applied in portions, sessions opened again.
+#[test]
+fn kept_and_applied() {
+    let first = from_environment("JANGSEBIT_SEED", SEED) << 32 | 1 << 30;
+    let captures = from_environment("JANGSEBIT_CAPTURES", 4_000);
+    let mut packets = 0;
+    for index in 0..captures {
+        let seed = first.wrapping_add(index);
+        packets += compare_calls(seed, &steps(seed, CALLS));
+    }
+    println!("{captures} times {CALLS} calls, {packets} packets, no difference");
+}
+
+/// The packets of captures kept, and applied in portions, with questions in between.
+#[test]
+fn split() {
+    let first = from_environment("JANGSEBIT_SEED", SEED) << 32 | 3 << 30;
+    let captures = from_environment("JANGSEBIT_CAPTURES", 4_000) / 4;
+    let mut all = Tally::default();
+    for index in 0..captures {
+        let seed = first.wrapping_add(index);
+        let (opening, capture) = feed::capture(seed, PACKETS);
+        all = all.and(compare(seed, opening, &capture, Way::Split(seed)));
+    }
+    println!("{captures} captures, no difference: {all:?}");
+}
+
 /// A session opened again is a fresh one, whatever it held.
 #[test]
 fn opened_again() {
@@ -145,6 +194,7 @@ fn long_nights() {
             Way::Bursts(64),
             Way::Single,
             Way::Mixed(seed),
+            Way::Split(seed),
         ] {
             all = all.and(compare(night, opening, &capture, way));
         }

@@ -4,20 +4,27 @@ use crate::refusal::{refused, Refusal};
 use crate::tables::Level;
 use std::fmt;
 
-/// What an accepted packet did.
+/// What an accepted packet did, or a call to apply what waits.
 #[derive(Clone, Copy, Debug, PartialEq, Eq)]
 pub struct Applied {
-    /// How many messages were applied: next rose by as much. 0 for a heartbeat, for a packet that is all old, and for
-    /// one whose messages wait.
+    /// How many messages were applied: next rose by as much. 0 where the message at next has not come, and where none
+    /// was asked for.
     pub messages: u64,
+}
+
+/// What an accepted packet did that was only kept.
+#[derive(Clone, Copy, Debug, PartialEq, Eq)]
+pub struct Kept {
+    /// How many of its numbers wait now and did not before. 0 for a heartbeat, and where all are old or waited already.
+    pub fresh: u64,
 }
 
 /// What a burst came to.
 #[derive(Clone, Copy, Debug, PartialEq, Eq)]
 pub struct Burst {
-    /// How many packets were taken.
+    /// How many packets were taken, or kept.
     pub packets: usize,
-    /// How many bytes these are with their lengths: what was not taken begins there.
+    /// How many bytes these are with their lengths: what was not looked at begins there.
     pub bytes: usize,
 }
 
@@ -29,13 +36,23 @@ pub struct Burst {
 pub struct Answer([u64; 4]);
 
 impl Answer {
-    /// What [`take`](crate::Session::take) would have answered to this packet.
+    /// Of a [`burst`](crate::Session::burst): what [`take`](crate::Session::take) would have answered to this packet.
     #[inline]
     pub fn result(&self) -> Result<Applied, Refusal> {
+        self.counted().map(|messages| Applied { messages })
+    }
+
+    /// Of a [`keep_burst`](crate::Session::keep_burst): what [`keep`](crate::Session::keep) would have answered to this
+    /// packet. Which of the two calls an answer is from, the host knows.
+    #[inline]
+    pub fn fresh(&self) -> Result<Kept, Refusal> {
+        self.counted().map(|fresh| Kept { fresh })
+    }
+
+    #[inline]
+    fn counted(&self) -> Result<u64, Refusal> {
         refused(self.0[1])?;
-        Ok(Applied {
-            messages: self.0[0],
-        })
+        Ok(self.0[0])
     }
 
     /// next behind this packet.
@@ -54,7 +71,7 @@ impl Answer {
 impl fmt::Debug for Answer {
     fn fmt(&self, f: &mut fmt::Formatter<'_>) -> fmt::Result {
         f.debug_struct("Answer")
-            .field("result", &self.result())
+            .field("counted", &self.counted())
             .field("next", &self.next())
             .field("end", &self.end())
             .finish()

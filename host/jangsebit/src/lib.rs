@@ -18,6 +18,9 @@
 //! # Ok::<(), Refusal>(())
 //! ```
 //!
+//! A loop that must not apply too many messages at once keeps packets as they come and applies what waits in portions:
+//! [`Session::keep`] and [`Session::apply`].
+//!
 //! Packets of 12 to 1,472 bytes, messages of 3 to 128, 256 numbers that can wait, 256 live orders, 64 insides. Sockets, login,
 //! order entry and text channels are the host's.
 #![deny(missing_docs)]
@@ -31,7 +34,7 @@ mod sys;
 mod tables;
 mod wire;
 
-pub use answers::{Answer, Applied, Burst, Question, Quote};
+pub use answers::{Answer, Applied, Burst, Kept, Question, Quote};
 pub use message::{Message, Terms};
 pub use refusal::{Fault, Refusal, UnknownNumber};
 pub use session::{Faults, Gap, Gaps, Numbers, Session};

@@ -1,6 +1,6 @@
 //! A session.
 
-use crate::answers::{Answer, Applied, Burst, Question, Quote};
+use crate::answers::{Answer, Applied, Burst, Kept, Question, Quote};
 use crate::refusal::{named, refused, Fault, Refusal};
 use crate::sys::{self, Memory};
 use crate::tables::{Inside, Level, Order};
@@ -38,7 +38,7 @@ const _: () = {
 };
 
 /// The exports that this crate was written for.
-const VERSION: u32 = 1;
+const VERSION: u32 = 2;
 
 impl Session {
     /// How many orders can be live.
@@ -78,13 +78,14 @@ impl Session {
         self.memory.open(number);
     }
 
-    /// Takes one packet, from either line or from retransmission.
+    /// Takes one packet, from either line or from retransmission: [`keep`](Session::keep)s it and, unless that is
+    /// refused, [`apply`](Session::apply)s all that waits from next on.
     ///
-    /// A packet that does not carry next is kept or refused without a look at the tables.
+    /// A packet that does not carry next, while nothing waits there, is kept or refused without a look at the tables.
     ///
     /// # Errors
     ///
-    /// Refusals 1 to 10; the session is then as it was.
+    /// Refusals 1 to 10; the session is then as it was, and nothing that waits is applied.
     ///
     /// ```
     /// # let mut session = jangsebit::Session::open(1_000);
@@ -142,12 +143,119 @@ impl Session {
         count: usize,
         answers: &mut [Answer],
     ) -> Result<Burst, Refusal> {
-        let [refusal, packets, bytes] = self.memory.burst(packets, count, answers);
+        burst(self.memory.burst(packets, count, answers))
+    }
+
+    /// Judges one packet and keeps its messages waiting. It applies nothing: next and the tables stay.
+    ///
+    /// Up to 256 messages can wait, from next on; those that can be applied are those from next to below
+    /// [`lowest`](Session::lowest).
+    ///
+    /// # Errors
+    ///
+    /// Refusals 1 to 10, as [`take`](Session::take) gives them; the session is then as it was.
+    ///
+    /// ```
+    /// use jangsebit::{Refusal, Session};
+    ///
+    /// let mut session = Session::open(1);
+    /// // Two Imbalances, numbers 1 and 2, from both lines.
+    /// let packet = [0, 18, 0, 0, 0, 1, 0, 2, 0, 0, 0, 0, 0, 3, 28, 0, 3, 28];
+    /// assert_eq!(session.keep(&packet)?.fresh, 2);
+    /// assert_eq!(session.keep(&packet)?.fresh, 0);
+    /// assert_eq!((session.numbers().next, session.numbers().end), (1, 3));
+    /// // Another message under a number that waits.
+    /// let other = [0, 15, 0, 0, 0, 1, 0, 1, 0, 0, 0, 0, 0, 3, 99];
+    /// assert_eq!(session.keep(&other), Err(Refusal::Conflict));
+    /// assert_eq!(session.apply(u64::MAX).messages, 2);
+    /// # Ok::<(), Refusal>(())
+    /// ```
+    #[inline]
+    pub fn keep(&mut self, packet: &[u8]) -> Result<Kept, Refusal> {
+        let (refusal, fresh) = self.memory.keep(packet);
         refused(refusal)?;
-        Ok(Burst {
-            packets: packets as usize,
-            bytes: bytes as usize,
-        })
+        Ok(Kept { fresh })
+    }
+
+    /// Keeps many packets in one call, laid out and counted as for [`burst`](Session::burst), and applies nothing. Each
+    /// answer is [`fresh`](Answer::fresh), and what [`keep`](Session::keep) would give.
+    ///
+    /// A packet that is refused has its refusal in its own answer, and those behind it are kept.
+    ///
+    /// # Errors
+    ///
+    /// [`Refusal::BufferTooShort`] where there are fewer answers than `count`; none is then kept.
+    ///
+    /// ```
+    /// use jangsebit::{Answer, Refusal, Session};
+    ///
+    /// let first = [0, 15, 0, 0, 0, 1, 0, 1, 0, 0, 0, 0, 0, 3, 28];
+    /// let third = [0, 15, 0, 0, 0, 3, 0, 1, 0, 0, 0, 0, 0, 3, 28];
+    /// let mut packets = Vec::new();
+    /// for packet in [&first, &third, &first] {
+    ///     packets.extend((packet.len() as u16).to_be_bytes());
+    ///     packets.extend(packet);
+    /// }
+    /// let mut session = Session::open(1);
+    /// let mut answers = [Answer::default(); 8];
+    /// let burst = session.keep_burst(&packets, 8, &mut answers)?;
+    /// assert_eq!((burst.packets, burst.bytes), (3, packets.len()));
+    /// assert_eq!(answers[1].fresh()?.fresh, 1);
+    /// assert_eq!((answers[1].next(), answers[1].end()), (1, 4));
+    /// assert_eq!(answers[2].fresh()?.fresh, 0);
+    /// // Number 2 is missing, and 3 waits for it.
+    /// assert_eq!(session.apply(u64::MAX).messages, 1);
+    /// # Ok::<(), Refusal>(())
+    /// ```
+    #[inline]
+    pub fn keep_burst(
+        &mut self,
+        packets: &[u8],
+        count: usize,
+        answers: &mut [Answer],
+    ) -> Result<Burst, Refusal> {
+        burst(self.memory.keep_burst(packets, count, answers))
+    }
+
+    /// Applies what waits from next on, in order, up to `count` messages. Any count will do: [`u64::MAX`] applies all
+    /// that can be, 0 nothing.
+    ///
+    /// ```
+    /// use jangsebit::{Refusal, Session};
+    ///
+    /// let mut session = Session::open(1);
+    /// // Three Imbalances, numbers 1 to 3.
+    /// session.keep(&[0, 21, 0, 0, 0, 1, 0, 3, 0, 0, 0, 0, 0, 3, 28, 0, 3, 28, 0, 3, 28])?;
+    /// // Not more than two a tick.
+    /// assert_eq!(session.apply(2).messages, 2);
+    /// assert_eq!(session.numbers().next, 3);
+    /// assert_eq!(session.apply(2).messages, 1);
+    /// assert_eq!(session.apply(2).messages, 0);
+    /// # Ok::<(), Refusal>(())
+    /// ```
+    #[inline]
+    pub fn apply(&mut self, count: u64) -> Applied {
+        Applied {
+            messages: self.memory.apply(count),
+        }
+    }
+
+    /// The lowest number from the opening on that no accepted packet has carried. Never below next: the messages from
+    /// next to below it wait, and applying to the end brings next there.
+    ///
+    /// ```
+    /// use jangsebit::{Refusal, Session};
+    ///
+    /// let mut session = Session::open(1);
+    /// session.keep(&[0, 18, 0, 0, 0, 1, 0, 2, 0, 0, 0, 0, 0, 3, 28, 0, 3, 28])?;
+    /// assert_eq!((session.numbers().next, session.lowest()), (1, 3));
+    /// session.apply(1);
+    /// assert_eq!((session.numbers().next, session.lowest()), (2, 3));
+    /// # Ok::<(), Refusal>(())
+    /// ```
+    #[inline]
+    pub fn lowest(&self) -> u64 {
+        self.memory.lowest()
     }
 
     /// next, end, the counts of the tables, the session code and the record of faults.
@@ -228,7 +336,7 @@ impl Session {
         Ok(Order::from_told(told))
     }
 
-    /// All live orders, where they lie; any packet may change their places.
+    /// All live orders, where they lie; any message applied may change their places.
     pub fn orders(&self) -> &[Order] {
         &self.memory.orders()[..self.numbers().live]
     }
@@ -278,6 +386,16 @@ impl Session {
     }
 }
 
+/// What a burst of either kind told: its refusal, packets and bytes.
+#[inline]
+fn burst([refusal, packets, bytes]: [u64; 3]) -> Result<Burst, Refusal> {
+    refused(refusal)?;
+    Ok(Burst {
+        packets: packets as usize,
+        bytes: bytes as usize,
+    })
+}
+
 impl fmt::Debug for Session {
     fn fmt(&self, f: &mut fmt::Formatter<'_>) -> fmt::Result {
         f.debug_tuple("Session").field(&self.numbers()).finish()
@@ -288,7 +406,7 @@ impl fmt::Debug for Session {
 #[repr(C)]
 #[derive(Clone, Copy, Debug, PartialEq, Eq)]
 pub struct Numbers {
-    /// The lowest number that no accepted packet has carried: all below it are applied. May reach 4,294,967,296.
+    /// The lowest number that is not applied: all below it are. May reach 4,294,967,296.
     pub next: u64,
     /// The largest end known: all numbers below it have been sent. Never below next.
     pub end: u64,

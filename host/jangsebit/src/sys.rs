@@ -88,6 +88,30 @@ extern "C" {
         answers_len: usize,
         told: *mut [u64; 3],
     );
+    fn jangsebit_keep(
+        room: *mut Room,
+        window: *mut Window,
+        packet: *const u8,
+        packet_len: usize,
+        told: *mut [u64; 1],
+    ) -> u64;
+    fn jangsebit_keep_packets(
+        room: *mut Room,
+        window: *mut Window,
+        packets: *const u8,
+        packets_len: usize,
+        count: u64,
+        answers: *mut u64,
+        answers_len: usize,
+        told: *mut [u64; 3],
+    );
+    fn jangsebit_apply(
+        session: *mut Orders,
+        room: *mut Room,
+        window: *mut Window,
+        count: u64,
+    ) -> u64;
+    fn jangsebit_lowest(room: *const Room, window: *const Window) -> u64;
     fn jangsebit_order(
         session: *const Orders,
         room: *const Room,
@@ -174,8 +198,8 @@ impl Memory {
         unsafe { jangsebit_open(&mut self.orders, &mut self.room, &mut self.window, number) }
     }
 
-    /// A packet that does not carry next: told are 1 where it was kept, 2 and the refusal where it was refused; 0
-    /// where it does carry next, and then nothing was done.
+    /// A packet that does not carry next, while nothing waits there: told are 1 where it was kept, 2 and the refusal
+    /// where it was refused; 0 where there may be something to apply, and then nothing was done.
     #[inline]
     pub fn pass(&mut self, packet: &[u8]) -> [u64; 2] {
         let mut told = [0; 2];
@@ -231,6 +255,57 @@ impl Memory {
             )
         }
         told
+    }
+
+    /// The refusal, and how many of the packet's numbers wait that did not before.
+    #[inline]
+    pub fn keep(&mut self, packet: &[u8]) -> (u64, u64) {
+        let mut told = [0; 1];
+        // SAFETY: as above.
+        let refusal = unsafe {
+            jangsebit_keep(
+                &mut self.room,
+                &mut self.window,
+                packet.as_ptr(),
+                packet.len(),
+                &mut told,
+            )
+        };
+        (refusal, told[0])
+    }
+
+    /// So many packets, each behind its length, kept: the refusal of the call, how many were judged, and their bytes.
+    #[inline]
+    pub fn keep_burst(&mut self, packets: &[u8], count: usize, answers: &mut [Answer]) -> [u64; 3] {
+        let mut told = [0; 3];
+        // SAFETY: as above; an answer is four numbers.
+        unsafe {
+            jangsebit_keep_packets(
+                &mut self.room,
+                &mut self.window,
+                packets.as_ptr(),
+                packets.len(),
+                count as u64,
+                answers.as_mut_ptr().cast(),
+                4 * answers.len(),
+                &mut told,
+            )
+        }
+        told
+    }
+
+    /// How many messages were applied, of so many at most.
+    #[inline]
+    pub fn apply(&mut self, count: u64) -> u64 {
+        // SAFETY: as above.
+        unsafe { jangsebit_apply(&mut self.orders, &mut self.room, &mut self.window, count) }
+    }
+
+    /// The lowest number from the opening on that no accepted packet has carried.
+    #[inline]
+    pub fn lowest(&self) -> u64 {
+        // SAFETY: as above.
+        unsafe { jangsebit_lowest(&self.room, &self.window) }
     }
 
     /// The refusal, and an order's id value, price, shares, firm, first and last eight bytes of its symbol, side and

@@ -1,6 +1,6 @@
 //! Document 01's worked examples through the crate, and what a host relies on beside them.
 
-use jangsebit::{id_value, symbol, Fault, Gap, Level, Refusal, Session, Side};
+use jangsebit::{id_value, symbol, Answer, Fault, Gap, Level, Refusal, Session, Side};
 
 const ID: [u8; 14] = *b"7A400CY528L9SN";
 
@@ -212,6 +212,75 @@ fn the_capture() {
         count: 1,
     };
     assert_eq!(session.gaps().collect::<Vec<_>>(), [gap]);
+}
+
+/// A window full of messages that wait, applied in portions.
+#[test]
+fn kept_and_applied() {
+    let mut session = Session::open(1_000);
+    let many = packet(1_000, &vec![imbalance(); 255]);
+    let one = packet(1_255, &[imbalance()]);
+    let behind = packet(1_256, &[add(ID, b'B', 300, 1_250_000)]);
+    let kept = |session: &mut Session, packet| session.keep(packet).map(|kept| kept.fresh);
+    assert_eq!(kept(&mut session, &many), Ok(255));
+    assert_eq!(kept(&mut session, &one), Ok(1));
+    let full = session.clone();
+    assert_eq!(kept(&mut session, &behind), Err(Refusal::BeyondWindow));
+    assert_eq!(taken(&mut session, &behind), Err(Refusal::BeyondWindow));
+    let other = packet(1_000, &[message(99, &[])]);
+    assert_eq!(kept(&mut session, &other), Err(Refusal::Conflict));
+    assert_eq!(session.apply(0).messages, 0);
+    assert_eq!(session, full);
+    let numbers = session.numbers();
+    assert_eq!((numbers.next, numbers.end), (1_000, 1_256));
+    assert_eq!(session.lowest(), 1_256);
+    assert_eq!(session.apply(1).messages, 1);
+    assert_eq!(kept(&mut session, &other), Ok(0));
+    assert_eq!(kept(&mut session, &behind), Ok(1));
+    assert_eq!(session.apply(100).messages, 100);
+    assert_eq!((session.numbers().next, session.lowest()), (1_101, 1_257));
+    assert_eq!(session.order(&ID), Err(Refusal::NotFound));
+    // A heartbeat that is taken brings along all that waits.
+    assert_eq!(taken(&mut session, &heartbeat(0)), Ok(156));
+    assert_eq!(session.apply(u64::MAX).messages, 0);
+    assert_eq!(session.order(&ID).map(|order| order.shares), Ok(300));
+}
+
+#[test]
+fn a_burst_that_keeps() {
+    let mut packets = Vec::new();
+    for packet in [
+        packet(2, &[imbalance(), imbalance()]),
+        packet(258, &[imbalance()]),
+        packet(1, &[imbalance(), imbalance()]),
+    ] {
+        packets.extend((packet.len() as u16).to_be_bytes());
+        packets.extend(packet);
+    }
+    let mut session = Session::open(1);
+    let opened = session.clone();
+    let mut answers = [Answer::default(); 4];
+    for count in [5, 1 << 62, usize::MAX] {
+        let short = session.keep_burst(&packets, count, &mut answers);
+        assert_eq!(short, Err(Refusal::BufferTooShort));
+    }
+    let none = session.keep_burst(&packets, 0, &mut answers).unwrap();
+    assert_eq!((none.packets, none.bytes), (0, 0));
+    assert_eq!((session.clone(), answers), (opened, Default::default()));
+    let burst = session.keep_burst(&packets, 4, &mut answers).unwrap();
+    assert_eq!((burst.packets, burst.bytes), (3, packets.len()));
+    let fresh = |answer: &Answer| answer.fresh().map(|kept| kept.fresh);
+    assert_eq!(fresh(&answers[0]), Ok(2));
+    assert_eq!(fresh(&answers[1]), Err(Refusal::BeyondWindow));
+    assert_eq!(fresh(&answers[2]), Ok(1));
+    assert_eq!((answers[2].next(), answers[2].end()), (1, 4));
+    assert_eq!(answers[3], Answer::default());
+    assert_eq!(
+        format!("{:?}", answers[0]),
+        "Answer { counted: Ok(2), next: 1, end: 4 }"
+    );
+    assert_eq!(session.apply(2).messages, 2);
+    assert_eq!((session.numbers().next, session.lowest()), (3, 4));
 }
 
 #[test]

@@ -1,4 +1,4 @@
-//! The twin: document 01 once more, in Rust, after the documents alone and for speed.
+//! The twin: document 01, and of 02 what has landed, once more in Rust, after the documents alone and for speed.
 //!
 //! It shares no code, no table and no constant with the proved library, so that a slip in one of the
 //! two, or in the compiler behind either, shows as a difference.

@@ -8,6 +8,7 @@ pub const WINDOW: usize = 256;
 const PLACE: usize = 128;
 
 pub struct Session {
+    /// The lowest number not applied.
     next: u64,
     end: u64,
     faults: Faults,
@@ -37,14 +38,58 @@ impl Session {
         }
     }
 
-    /// Takes one packet and answers how many messages were applied, or the refusal.
+    /// Takes one packet and answers how many messages were applied, or the refusal: as keeping it and then applying
+    /// to the end, but what the packet brings to `next` is applied straight from it.
     #[inline(always)]
     pub fn take(&mut self, packet: &[u8]) -> Result<u64, Refusal> {
+        let (first, behind) = self.judge(packet)?;
+        self.end = self.end.max(behind);
+        let before = self.next;
+        if first > self.next {
+            self.store(packet, first);
+        } else {
+            self.run(packet, first);
+        }
+        if self.waiting != 0 {
+            self.apply(u64::MAX);
+        }
+        Ok(self.next - before)
+    }
+
+    /// Judges one packet and keeps its messages waiting: how many of its numbers wait that did not before, or the
+    /// refusal.
+    #[inline(always)]
+    pub fn keep(&mut self, packet: &[u8]) -> Result<u64, Refusal> {
+        let (first, behind) = self.judge(packet)?;
+        self.end = self.end.max(behind);
+        let before = self.waiting;
+        self.store(packet, first);
+        Ok((self.waiting - before) as u64)
+    }
+
+    /// Applies what waits from `next` on, up to so many messages, and says how many.
+    pub fn apply(&mut self, count: u64) -> u64 {
+        let before = self.next;
+        while self.next - before < count {
+            let place = place_of(self.next);
+            let size = self.sizes[place] as usize;
+            if size == 0 {
+                break;
+            }
+            let fault = self.book.apply(&self.places[place][..size]);
+            self.free(self.next);
+            self.step(fault);
+        }
+        self.next - before
+    }
+
+    /// Tests 1 to 10: the number of the first message and the number behind the last, for a heartbeat its own twice.
+    #[inline(always)]
+    fn judge(&self, packet: &[u8]) -> Result<(u64, u64), Refusal> {
         let header = read_header(packet)?;
         let first = header.number as u64;
         if header.heartbeat() {
-            self.end = self.end.max(first);
-            return Ok(0);
+            return Ok((first, first));
         }
         messages_good(packet, header.messages)?;
         let behind = first + header.messages as u64;
@@ -57,17 +102,7 @@ impl Session {
         if self.waiting != 0 && self.conflicts(packet, first) {
             return Err(Refusal(10));
         }
-        self.end = self.end.max(behind);
-        if first > self.next {
-            self.keep(packet, first);
-            return Ok(0);
-        }
-        let before = self.next;
-        self.run(packet, first);
-        if self.waiting != 0 {
-            self.drain();
-        }
-        Ok(self.next - before)
+        Ok((first, behind))
     }
 
     /// Whether a message differs from the copy that waits under its number.
@@ -79,11 +114,11 @@ impl Session {
             })
     }
 
-    /// Keeps the messages of a packet that lies wholly above `next`.
-    fn keep(&mut self, packet: &[u8], first: u64) {
+    /// Lays a packet's messages into their places. Old numbers have none: theirs are those of numbers 256 above.
+    fn store(&mut self, packet: &[u8], first: u64) {
         for (number, message) in (first..).zip(Messages::in_packet(packet)) {
             let place = place_of(number);
-            if self.sizes[place] == 0 {
+            if number >= self.next && self.sizes[place] == 0 {
                 self.sizes[place] = message.len() as u8;
                 self.places[place][..message.len()].copy_from_slice(message);
                 self.waiting += 1;
@@ -101,20 +136,6 @@ impl Session {
                 self.free(self.next);
             }
             let fault = self.book.apply(message);
-            self.step(fault);
-        }
-    }
-
-    /// Applies what waits from `next` on.
-    fn drain(&mut self) {
-        loop {
-            let place = place_of(self.next);
-            let size = self.sizes[place] as usize;
-            if size == 0 {
-                return;
-            }
-            let fault = self.book.apply(&self.places[place][..size]);
-            self.free(self.next);
             self.step(fault);
         }
     }
@@ -147,8 +168,22 @@ impl Session {
         self.sizes[place_of(number)] != 0
     }
 
+    /// How many messages wait.
+    pub fn waiting(&self) -> usize {
+        self.waiting
+    }
+
+    /// The lowest number not applied.
     pub fn next(&self) -> u64 {
         self.next
+    }
+
+    /// The lowest number from the opening on that no accepted packet carried: all below it are applied or wait.
+    pub fn lowest(&self) -> u64 {
+        let behind = self.next + WINDOW as u64;
+        (self.next..behind)
+            .find(|number| !self.waits(*number))
+            .unwrap_or(behind)
     }
 
     pub fn end(&self) -> u64 {

@@ -7,7 +7,7 @@ use Rattle.session_message.proofs.size.Statement.{statement}
 use Rattle.session_message.proofs.size.Tie as tie
 
 returns : tie.Need-returns
-returns c = c .size-at .ensures ∙ sym (size-window (c .before .before .before .before .args .rest) (c .before .if1 .taken) (c .before .before .before .before .args .window .now) (c .before .before .before .before .args .s .now) (c .before .before .before .before .args .place))
+returns c = c .size-due .ensures ∙ sym (size-window (c .before .before .before .before .args .rest) (c .before .if1 .taken) (c .before .before .before .before .args .window .now) (c .before .before .before .before .args .s .now) (c .before .before .before .before .args .place))
 
 returns-2 : tie.Need-returns-2
 returns-2 c = c .u16-at .ensures ∙ sym (size-packet (c .before .before .before .before .args .rest) (c .before .if1 .left) (c .before .before .before .before .args .window .now) (c .before .before .before .before .args .s .now) (c .before .before .before .before .args .place))

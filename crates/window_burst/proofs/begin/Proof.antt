@@ -9,7 +9,16 @@ use Rattle.window_burst.proofs.begin.Statement.{statement}
 use Rattle.window_burst.proofs.begin.Tie as tie
 
 returns : tie.Need-returns
-returns c = (began (to.entry-from-admit c .pre .1 .0) (to.frame-of-from-admit c .frame-of .ensures) (to.entry-from-admit c .args .window .now) (to.entry-from-admit c .args .next) (to.entry-from-admit c .args .end) (to.entry-from-admit c .args .left) (to.entry-from-admit c .args .place) (c .admit .ensures .0) (to.header-from-admit c .header .ensures), kept (to.entry-from-admit c .pre .1 .0) (to.frame-of-from-admit c .frame-of .ensures) (to.entry-from-admit c .args .window .now) (to.entry-from-admit c .args .next) (to.entry-from-admit c .args .end) (c .admit .ensures .1))
+returns c =
+    let lies = to.entry-from-from-of c .pre .1 .0 in
+    let framed = to.frame-of-from-from-of c .frame-of .ensures in
+    let window = to.entry-from-from-of c .args .window .now in
+    let next = to.entry-from-from-of c .args .next in
+    let end = to.entry-from-from-of c .args .end in
+    let admitted = to.admit-from-from-of c .admit .ensures in (
+      began lies framed window next end (to.entry-from-from-of c .args .left) (to.entry-from-from-of c .args .place) (admitted .0) (to.header-from-from-of c .header .ensures) (c .from-of .ensures),
+      kept lies framed window next end (admitted .1),
+    )
 
 pub begin-spec : {M : Type 1} → statement M
 begin-spec =
@@ -23,4 +32,5 @@ begin-spec =
     (λ c. search needs)
     (λ c. frame-stop (to.entry-from-admit-arg c .pre .1 .0) (to.frame-of-from-admit-arg c .frame-of .ensures))
     (λ c κs. (to.entry-from-admit-arg2 c .pre .0, to.entry-from-admit-arg2 c .pre .1 .1))
+    (λ c κs. search needs)
     returns)

@@ -8,23 +8,23 @@ use Rattle.desk.proofs.command.command_of.Tie as tie
 
 returns : tie.Need-returns
 unfolding commandOf
-returns c = of-count 1 (c .before .before .before .count .ensures .is) (c .before .before .match .keys1) (c .before .before .before .before .word .ensures) (c .named .ensures)
+returns c = of-count 1 (c .before .before .count .ensures .is) (c .before .match .keys1) (c .before .before .before .word .ensures) (c .bare-command .ensures)
 
 returns-2 : tie.Need-returns-2
 unfolding commandOf
-returns-2 c = of-count 2 (c .before .before .count .ensures .is) (c .before .match .keys2) (c .before .before .before .word .ensures) (c .one-command .ensures)
+returns-2 c = of-count 2 (c .before .before .count .ensures .is) (c .before .match .keys2) (c .before .before .before .word .ensures) (c .two-command .ensures)
 
 returns-3 : tie.Need-returns-3
 unfolding commandOf
-returns-3 c = of-count 3 (c .before .before .before .count .ensures .is) (c .before .before .match .keys3) (c .before .before .before .before .word .ensures) (c .named2 .ensures)
+returns-3 c = of-count 3 (c .before .before .before .count .ensures .is) (c .before .before .match .keys3) (c .before .before .before .before .word .ensures) (c .named .ensures)
 
 returns-4 : tie.Need-returns-4
 unfolding commandOf
-returns-4 c = of-count 4 (c .before .before .before .count .ensures .is) (c .before .before .match .keys4) (c .before .before .before .before .word .ensures) (c .named3 .ensures)
+returns-4 c = of-count 4 (c .before .before .before .count .ensures .is) (c .before .before .match .keys4) (c .before .before .before .before .word .ensures) (c .named2 .ensures)
 
 returns-5 : tie.Need-returns-5
 unfolding commandOf
-returns-5 c = of-count 7 (c .before .before .before .count .ensures .is) (c .before .before .match .keys5) (c .before .before .before .before .word .ensures) (c .named4 .ensures)
+returns-5 c = of-count 7 (c .before .before .before .count .ensures .is) (c .before .before .match .keys5) (c .before .before .before .before .word .ensures) (c .named3 .ensures)
 
 returns-6 : tie.Need-returns-6
 returns-6 c =
@@ -37,7 +37,6 @@ command-of-spec =
     (tie.spec
     (λ c κs. search needs)
     (λ c κs. search needs)
-    (λ c. search needs)
     (λ c κs. search needs)
     (λ c κs. search needs)
     (λ c. search needs)

@@ -2,7 +2,7 @@
 -- Assumes nothing.
 mod Points
 use mathlib.Core.Path.{ap, sym}
-use Rattle.session.specs.declared.passing.Passed.{Passed}
+use Rattle.session_keeping.specs.declared.passing.Passed.{Passed}
 use Rattle.exports.specs.Passed.{passNumbers}
 use Rattle.single.specs.Over.{over}
 use borrow.Author.Needs.{needs}

@@ -11,9 +11,11 @@ use Rattle.wire.specs.Number.{Bytes}
 use Rattle.book.specs.declared.tables.Order.{Order}
 use Rattle.book_room.specs.Room.{Houses}
 use Rattle.window_taking.specs.declared.burst.Turn.{Turn}
-use Rattle.session.specs.Engine.{Going, Task, Touched, betweenOf, stepsLeft}
+use Rattle.session_message.specs.AtNext.{dueOf}
+use Rattle.window_taking.proofs.Passing.{bytes-of}
+use Rattle.session.specs.Engine.{Going, Task, Touched, betweenOf, turnsLeft}
 use Rattle.session.proofs.Engine.{Onward, came-over, came-waits, from-between}
-use Rattle.session.proofs.Runs.{Here, begins, bytes-of, closes, ends, follows, goes, here, holds, houses-read, known, less-turn, more, passes-so, same-length, tabled, waits-so}
+use Rattle.session.proofs.Runs.{Here, begins, closes, ends, follows, follows-few, goes, here, holds, houses-read, known, less-turn, more, passes-so, same-length, tabled, waits-so}
 use borrow.Author.Needs.{needs}
 use Rattle.session.proofs.advancing.advance.Proof.Points as to
 use Rattle.session.proofs.advancing.advance.Statement.{statement}
@@ -24,7 +26,7 @@ Inv-loop room₀ window₀ packets single text₀ answers₀ next₀ turn₀ res
     Onward packets single room₀ window₀ answers₀ text₀ (betweenOf next₀ turn₀ rest₀) room window answers text (betweenOf next turn rest)
 
 abbrev μ-loop : tie.MeasureT-loop
-μ-loop room₀ window₀ packets single text₀ answers₀ next₀ turn₀ rest₀ room window text answers next turn rest = turn .left * 257 + (turn .before + 256 - next)
+μ-loop room₀ window₀ packets single text₀ answers₀ next₀ turn₀ rest₀ room window text answers next turn rest = turnsLeft turn rest
 
 packet-bytes : (c : tie.After-shared-slice-known Inv-loop μ-loop) → Bytes (to.entry-from-shared-slice-known c .args .packets .now)
 packet-bytes c = bytes-of (to.entry-from-shared-slice-known c .args .packets .now) (λ i. omega (arith, c .shared-slice-known .given i))
@@ -74,10 +76,16 @@ follow-requires c κs =
     let free = to.then1-from-follow-arg c .if1 .taken in
     (holds o told free, (more o told free (to.close-from-follow-arg c .close .ensures) (sym (to.done-from-follow-arg c .done .ensures) ∙ to.else2-from-follow-arg c .if2 .left), known o told free))
 
-less : (c : tie.After-follow Inv-loop μ-loop) → stepsLeft (betweenOf (to.loop-from-follow c .loop .next) (c .follow .result) (to.loop-from-follow c .loop .rest)) < stepsLeft (betweenOf (to.loop-from-follow c .loop .next) (to.loop-from-follow c .loop .turn) (to.loop-from-follow c .loop .rest))
+less : (c : tie.After-follow Inv-loop μ-loop) → turnsLeft (c .follow .result) (record { left = c .follow .result .direct; from = c .follow .result .from }) < turnsLeft (to.loop-from-follow c .loop .turn) (to.loop-from-follow c .loop .rest)
 less c =
-    less-turn (to.loop-from-follow c .loop .turn) (c .follow .result) (to.loop-from-follow c .loop .next) (ap (λ (t : Turn). t .left) (c .follow .ensures .0)) (ap (λ (t : Turn). t .before) (c .follow .ensures .0))
-    (more (one (to.loop-from-follow c) .now) (to.size-from-follow c .size .ensures) (to.then1-from-follow c .if1 .taken) (to.close-from-follow c .close .ensures) (sym (to.done-from-follow c .done .ensures) ∙ to.else2-from-follow c .if2 .left) .left)
+    let o = one (to.loop-from-follow c) .now in
+    let told = to.size-from-follow c .size .ensures in
+    let free = to.then1-from-follow c .if1 .taken in
+    let put = to.close-from-follow c .close .ensures in
+    let other = sym (to.done-from-follow c .done .ensures) ∙ to.else2-from-follow c .if2 .left in
+    less-turn (to.loop-from-follow c .loop .turn) (c .follow .result) (to.loop-from-follow c .loop .rest) (record { left = c .follow .result .direct; from = c .follow .result .from }) (ap (λ (t : Turn). t .left) (c .follow .ensures .0))
+    (follows-few o told free put other (packet-bytes (to.shared-slice-known-from-follow c)) (c .follow .ensures .0) (c .follow .ensures .1))
+    (more o told free put other .left)
 
 loop-again : tie.Need-loop-again Inv-loop μ-loop
 loop-again c =
@@ -97,7 +105,7 @@ loop-again c =
 
 -- ---- a message waits
 
-at : (c : tie.After-fetch Inv-loop μ-loop) → Here (to.entry-from-fetch c .args .packets .now) (to.loop-from-fetch c .loop .rest) (to.size-from-fetch c .size .result) (c .fetch .last .0) (to.loop-from-fetch c .loop .next) (to.loop-from-fetch c .loop .turn .before)
+at : (c : tie.After-fetch Inv-loop μ-loop) → Here (to.entry-from-fetch c .args .packets .now) (to.loop-from-fetch c .loop .rest) (to.size-from-fetch c .size .result) (c .fetch .last .0) (to.loop-from-fetch c .loop .next)
 at c =
     let g = one (to.loop-from-fetch c) in
     here (g .now) (to.size-from-fetch c .size .ensures) (to.else1-from-fetch c .if1 .left) (to.loop-from-fetch c .loop .text) (g .wide) (c .fetch .ensures)
@@ -123,8 +131,8 @@ touched : (c : tie.After-apply Inv-loop μ-loop) {t : Task} {os : List Order} (g
     → Touched (c .apply .last .0) (t .next) (t .end) (tabled (is-at (to.loop-from-apply c) g .now)) (to.loop-from-apply c .loop .next) (to.message-from-apply c .message .result .now) (c .apply .result)
 touched c {t} g = c .apply .ensures (t .next) (t .end) (tabled (is-at (to.loop-from-apply c) g .now)) (housed (to.message-from-apply c) g)
 
-fewer : (c : tie.After-apply Inv-loop μ-loop) → to.loop-from-apply c .loop .turn .left * 257 + (to.loop-from-apply c .loop .turn .before + 256 - (to.loop-from-apply c .loop .next + 1)) < to.loop-from-apply c .loop .turn .left * 257 + (to.loop-from-apply c .loop .turn .before + 256 - to.loop-from-apply c .loop .next)
-fewer c = omega (arith, at (to.fetch-from-apply c) .fewer)
+fewer : (c : tie.After-apply Inv-loop μ-loop) → turnsLeft (to.loop-from-apply c .loop .turn) (to.onward-from-apply c .onward .result) < turnsLeft (to.loop-from-apply c .loop .turn) (to.loop-from-apply c .loop .rest)
+fewer c = omega (arith, at (to.fetch-from-apply c) .fewer, ap dueOf (to.onward-from-apply c .onward .ensures))
 
 same-size-2 : tie.Need-same-length-2 Inv-loop μ-loop
 same-size-2 c = one (to.loop-from-at-hand c) .long ∙ sym (to.entry-from-at-hand c .pre .2 .long)

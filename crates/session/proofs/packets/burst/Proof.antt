@@ -6,7 +6,7 @@ use mathlib.Core.Bool.{false}
 use native.Mathlib.Omega.{arith}
 use Rattle.session.proofs.Calls.{burst-is, burst-runs, bytes-are, count-is, rows-are, rule-packets}
 use Rattle.session.specs.Meaning.{held, view}
-use Rattle.session.proofs.Runs.{bytes-of}
+use Rattle.window_taking.proofs.Passing.{bytes-of}
 use borrow.Author.Needs.{needs}
 use Rattle.session.proofs.packets.burst.Proof.Points as to
 use Rattle.session.proofs.packets.burst.Statement.{statement}

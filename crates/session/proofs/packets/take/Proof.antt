@@ -5,7 +5,7 @@ use mathlib.Core.Bool.{true}
 use native.Mathlib.Omega.{arith}
 use Rattle.session.specs.Meaning.{held, view}
 use Rattle.session.proofs.Calls.{answer-is, one-runs, rule-packets, taken-is, told-refusal}
-use Rattle.session.proofs.Runs.{bytes-of}
+use Rattle.window_taking.proofs.Passing.{bytes-of}
 use borrow.Author.Needs.{needs}
 use Rattle.session.proofs.packets.take.Proof.Points as to
 use Rattle.session.proofs.packets.take.Statement.{statement}

@@ -19,17 +19,17 @@ use Rattle.session.proofs.running.run.Statement.{statement}
 use Rattle.session.proofs.running.run.Tie as tie
 
 abbrev Inv-loop : tie.InvT-loop
-Inv-loop room₀ window₀ packets single count answers₀ session₀ text₀ point₀ room window answers session text point =
-    Going (taskOf (held session₀ room₀ window₀) packets single count answers₀) packets single (session .orders) room window answers text point
+Inv-loop room₀ window₀ packets single count answers₀ due session₀ text₀ point₀ room window answers session text point =
+    Going (taskOf (held session₀ room₀ window₀) packets single count answers₀ due) packets single (session .orders) room window answers text point
 
 abbrev μ-loop : tie.MeasureT-loop
-μ-loop room₀ window₀ packets single count answers₀ session₀ text₀ point₀ room window answers session text point = stepsLeft point
+μ-loop room₀ window₀ packets single count answers₀ due session₀ text₀ point₀ room window answers session text point = stepsLeft point
 
 abbrev task : tie.At-loop Inv-loop μ-loop → Task
-task c = taskOf (held (to.entry-from-loop c .args .t1) (to.entry-from-loop c .args .room .now) (to.entry-from-loop c .args .window .now)) (to.entry-from-loop c .args .packets .now) (to.entry-from-loop c .args .single) (to.entry-from-loop c .args .count) (to.entry-from-loop c .args .answers .now)
+task c = taskOf (held (to.entry-from-loop c .args .t1) (to.entry-from-loop c .args .room .now) (to.entry-from-loop c .args .window .now)) (to.entry-from-loop c .args .packets .now) (to.entry-from-loop c .args .single) (to.entry-from-loop c .args .count) (to.entry-from-loop c .args .answers .now) (to.entry-from-loop c .args .due)
 
 loop-holds : tie.Need-loop-holds Inv-loop μ-loop
-loop-holds c = going-starts (to.entry-from-begin c .pre .0) (to.entry-from-begin c .args .packets .now) (to.entry-from-begin c .args .single) (to.entry-from-begin c .args .answers .now) (to.entry-from-begin c .pre .1) _ (length-replicate {A = ℕ} 128 0) (c .begin .ensures)
+loop-holds c = going-starts (to.entry-from-begin c .pre .0) (to.entry-from-begin c .args .packets .now) (to.entry-from-begin c .args .single) (to.entry-from-begin c .args .answers .now) (to.entry-from-begin c .args .due) (to.entry-from-begin c .pre .1) _ (length-replicate {A = ℕ} 128 0) (c .begin .ensures)
 
 advance-requires : tie.Need-advance-requires Inv-loop μ-loop
 advance-requires c κs = (task (to.loop-from-advance-arg3 c), to.loop-from-advance-arg3 c .loop .session .orders, to.loop-from-advance-arg3 c .loop .inv)

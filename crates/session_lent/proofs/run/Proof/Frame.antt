@@ -74,6 +74,7 @@ pub record Locals : Type 0 where
   pub o₄ : ℕ
   pub n₄ : ℕ
   pub γ₄ : GName
+  pub due : ℕ
   pub l₀ : ℕ
   pub l₁ : ℕ
   pub l₂ : ℕ
@@ -112,13 +113,14 @@ pub record Locals : Type 0 where
   pub l₃₅ : ℕ
   pub l₃₆ : ℕ
   pub l₃₇ : ℕ
+  pub l₃₈ : ℕ
 
 module _ (z : Locals) where
-  open Locals z using (κ, κ₁, κ₂, κ₃, κ₄, q, q₁, q₂, q₃, q₄, b, o, γ, h, b₁, o₁, γ₁, b₂, o₂, γ₂, p₃, single, count, b₄, o₄, n₄, γ₄, l₀, l₁, l₂, l₃, l₄, l₅, l₆, l₇, l₈, l₉, l₁₀, l₁₁, l₁₂, l₁₃, l₁₄, l₁₅, l₁₆, l₁₇, l₁₈, l₁₉, l₂₀, l₂₁, l₂₂, l₂₃, l₂₄, l₂₅, l₂₆, l₂₇, l₂₈, l₂₉, l₃₀, l₃₁, l₃₂, l₃₃, l₃₄, l₃₅, l₃₆, l₃₇)
+  open Locals z using (κ, κ₁, κ₂, κ₃, κ₄, q, q₁, q₂, q₃, q₄, b, o, γ, h, b₁, o₁, γ₁, b₂, o₂, γ₂, p₃, single, count, b₄, o₄, n₄, γ₄, due, l₀, l₁, l₂, l₃, l₄, l₅, l₆, l₇, l₈, l₉, l₁₀, l₁₁, l₁₂, l₁₃, l₁₄, l₁₅, l₁₆, l₁₇, l₁₈, l₁₉, l₂₀, l₂₁, l₂₂, l₂₃, l₂₄, l₂₅, l₂₆, l₂₇, l₂₈, l₂₉, l₃₀, l₃₁, l₃₂, l₃₃, l₃₄, l₃₅, l₃₆, l₃₇, l₃₈)
 
   module _ {M : Type 1} (𝓤 : URA M) (H : Heap 𝓤) (A : Atoms 𝓤) (W : Given 𝓤 H A) where
     abbrev pub En : Env 𝓤 H
-    En = (Ed′.mir, l₀) ∷ (tyRef (named 0) mut (pointee (T.the-row .written)), l₁) ∷ (tyRef (named 1) mut (tyArray (tyInt w64) 2306), l₂) ∷ (tyRef (named 2) mut (tyArray (tyInt w8) 32768), l₃) ∷ (sliceTy (tyRef (named 3) imm (tyInt w8)), l₄) ∷ (tyBool, l₅) ∷ (tyInt w64, l₆) ∷ (sliceTy (tyRef (named 4) mut (tyInt w64)), l₇) ∷ (tyArray (tyInt w8) 128, l₈) ∷ (Pt′.mir, l₉) ∷ (Or′.mir, l₁₀) ∷ (Oc′.mir, l₁₁) ∷ (tyArray (tyInt w8) 128, l₁₂) ∷ (tyRef erased mut (tyArray (tyInt w64) 2306), l₁₃) ∷ (tyRef erased mut (tyArray (tyInt w64) 2306), l₁₄) ∷ (tyRef erased mut (tyArray (tyInt w8) 32768), l₁₅) ∷ (tyRef erased mut (tyArray (tyInt w8) 128), l₁₆) ∷ (tyRef erased mut (tyInt w64), l₁₇) ∷ (sliceTy (tyRef erased mut (tyInt w64)), l₁₈) ∷ (tyBool, l₁₉) ∷ (tyInt w64, l₂₀) ∷ (tyPtr, l₂₁) ∷ (tyPtr, l₂₂) ∷ (Or′.mir, l₂₃) ∷ (tyRef erased mut (tyArray (tyInt w64) 2306), l₂₄) ∷ (tyRef erased mut (tyArray (tyInt w8) 128), l₂₅) ∷ (tyInt w64, l₂₆) ∷ (tyPtr, l₂₇) ∷ (tyPtr, l₂₈) ∷ (Or′.mir, l₂₉) ∷ (tyInt w64, l₃₀) ∷ (tyPtr, l₃₁) ∷ (tyPtr, l₃₂) ∷ (tyPtr, l₃₃) ∷ (tyPtr, l₃₄) ∷ (tyInt w64, l₃₅) ∷ (tyPtr, l₃₆) ∷ (tyPtr, l₃₇) ∷ []
+    En = (Ed′.mir, l₀) ∷ (tyRef (named 0) mut (pointee (T.the-row .written)), l₁) ∷ (tyRef (named 1) mut (tyArray (tyInt w64) 2306), l₂) ∷ (tyRef (named 2) mut (tyArray (tyInt w8) 32768), l₃) ∷ (sliceTy (tyRef (named 3) imm (tyInt w8)), l₄) ∷ (tyBool, l₅) ∷ (tyInt w64, l₆) ∷ (sliceTy (tyRef (named 4) mut (tyInt w64)), l₇) ∷ (tyInt w64, l₈) ∷ (tyArray (tyInt w8) 128, l₉) ∷ (Pt′.mir, l₁₀) ∷ (Or′.mir, l₁₁) ∷ (Oc′.mir, l₁₂) ∷ (tyArray (tyInt w8) 128, l₁₃) ∷ (tyRef erased mut (tyArray (tyInt w64) 2306), l₁₄) ∷ (tyRef erased mut (tyArray (tyInt w64) 2306), l₁₅) ∷ (tyRef erased mut (tyArray (tyInt w8) 32768), l₁₆) ∷ (tyRef erased mut (tyArray (tyInt w8) 128), l₁₇) ∷ (tyRef erased mut (tyInt w64), l₁₈) ∷ (sliceTy (tyRef erased mut (tyInt w64)), l₁₉) ∷ (tyBool, l₂₀) ∷ (tyInt w64, l₂₁) ∷ (tyPtr, l₂₂) ∷ (tyPtr, l₂₃) ∷ (Or′.mir, l₂₄) ∷ (tyRef erased mut (tyArray (tyInt w64) 2306), l₂₅) ∷ (tyRef erased mut (tyArray (tyInt w8) 128), l₂₆) ∷ (tyInt w64, l₂₇) ∷ (tyPtr, l₂₈) ∷ (tyPtr, l₂₉) ∷ (Or′.mir, l₃₀) ∷ (tyInt w64, l₃₁) ∷ (tyPtr, l₃₂) ∷ (tyPtr, l₃₃) ∷ (tyPtr, l₃₄) ∷ (tyPtr, l₃₅) ∷ (tyInt w64, l₃₆) ∷ (tyPtr, l₃₇) ∷ (tyPtr, l₃₈) ∷ []
 
     -- what is lent: the orders, and the way back to the session; its open borrow; the room, the window, the packets and the answers with their tokens
     abbrev lent : (os : List Order) (rm wn an : List ℕ) → List (Item 𝓤) → List (Item 𝓤)
@@ -149,37 +151,38 @@ module _ (z : Locals) where
         ∷ ‵ (fat fullShare tyBool l₅ 0 (vbool single))
         ∷ ‵ (fat fullShare (tyInt w64) l₆ 0 (vint w64 count))
         ∷ ‵ (fat fullShare (sliceTy (tyRef (named 4) mut (tyInt w64))) l₇ 0 (sliceVal (b₄, o₄) n₄))
+        ∷ ‵ (fat fullShare (tyInt w64) l₈ 0 (vint w64 due))
         ∷ others
 
     -- the locals that hold nothing between two calls; and that each local dies
     abbrev unused : List (Item 𝓤)
     unused =
-        ‵ (froom (tyArray (tyInt w8) 128) l₁₂ 0)
-        ∷ ‵ (froom (tyRef erased mut (tyArray (tyInt w64) 2306)) l₁₃ 0)
+        ‵ (froom (tyArray (tyInt w8) 128) l₁₃ 0)
         ∷ ‵ (froom (tyRef erased mut (tyArray (tyInt w64) 2306)) l₁₄ 0)
-        ∷ ‵ (froom (tyRef erased mut (tyArray (tyInt w8) 32768)) l₁₅ 0)
-        ∷ ‵ (froom (tyRef erased mut (tyArray (tyInt w8) 128)) l₁₆ 0)
-        ∷ ‵ (froom (tyRef erased mut (tyInt w64)) l₁₇ 0)
-        ∷ ‵ (froom (sliceTy (tyRef erased mut (tyInt w64))) l₁₈ 0)
-        ∷ ‵ (froom tyBool l₁₉ 0)
-        ∷ ‵ (froom (tyInt w64) l₂₀ 0)
-        ∷ ‵ (froom tyPtr l₂₁ 0)
+        ∷ ‵ (froom (tyRef erased mut (tyArray (tyInt w64) 2306)) l₁₅ 0)
+        ∷ ‵ (froom (tyRef erased mut (tyArray (tyInt w8) 32768)) l₁₆ 0)
+        ∷ ‵ (froom (tyRef erased mut (tyArray (tyInt w8) 128)) l₁₇ 0)
+        ∷ ‵ (froom (tyRef erased mut (tyInt w64)) l₁₈ 0)
+        ∷ ‵ (froom (sliceTy (tyRef erased mut (tyInt w64))) l₁₉ 0)
+        ∷ ‵ (froom tyBool l₂₀ 0)
+        ∷ ‵ (froom (tyInt w64) l₂₁ 0)
         ∷ ‵ (froom tyPtr l₂₂ 0)
-        ∷ ‵ (froom Or′.mir l₂₃ 0)
-        ∷ ‵ (froom (tyRef erased mut (tyArray (tyInt w64) 2306)) l₂₄ 0)
-        ∷ ‵ (froom (tyRef erased mut (tyArray (tyInt w8) 128)) l₂₅ 0)
-        ∷ ‵ (froom (tyInt w64) l₂₆ 0)
-        ∷ ‵ (froom tyPtr l₂₇ 0)
+        ∷ ‵ (froom tyPtr l₂₃ 0)
+        ∷ ‵ (froom Or′.mir l₂₄ 0)
+        ∷ ‵ (froom (tyRef erased mut (tyArray (tyInt w64) 2306)) l₂₅ 0)
+        ∷ ‵ (froom (tyRef erased mut (tyArray (tyInt w8) 128)) l₂₆ 0)
+        ∷ ‵ (froom (tyInt w64) l₂₇ 0)
         ∷ ‵ (froom tyPtr l₂₈ 0)
-        ∷ ‵ (froom Or′.mir l₂₉ 0)
-        ∷ ‵ (froom (tyInt w64) l₃₀ 0)
-        ∷ ‵ (froom tyPtr l₃₁ 0)
+        ∷ ‵ (froom tyPtr l₂₉ 0)
+        ∷ ‵ (froom Or′.mir l₃₀ 0)
+        ∷ ‵ (froom (tyInt w64) l₃₁ 0)
         ∷ ‵ (froom tyPtr l₃₂ 0)
         ∷ ‵ (froom tyPtr l₃₃ 0)
         ∷ ‵ (froom tyPtr l₃₄ 0)
-        ∷ ‵ (froom (tyInt w64) l₃₅ 0)
-        ∷ ‵ (froom tyPtr l₃₆ 0)
+        ∷ ‵ (froom tyPtr l₃₅ 0)
+        ∷ ‵ (froom (tyInt w64) l₃₆ 0)
         ∷ ‵ (froom tyPtr l₃₇ 0)
+        ∷ ‵ (froom tyPtr l₃₈ 0)
         ∷ ‵ (fdies Ed′.mir l₀)
         ∷ ‵ (fdies (tyRef (named 0) mut (pointee (T.the-row .written))) l₁)
         ∷ ‵ (fdies (tyRef (named 1) mut (tyArray (tyInt w64) 2306)) l₂)
@@ -188,64 +191,65 @@ module _ (z : Locals) where
         ∷ ‵ (fdies tyBool l₅)
         ∷ ‵ (fdies (tyInt w64) l₆)
         ∷ ‵ (fdies (sliceTy (tyRef (named 4) mut (tyInt w64))) l₇)
-        ∷ ‵ (fdies (tyArray (tyInt w8) 128) l₈)
-        ∷ ‵ (fdies Pt′.mir l₉)
-        ∷ ‵ (fdies Or′.mir l₁₀)
-        ∷ ‵ (fdies Oc′.mir l₁₁)
-        ∷ ‵ (fdies (tyArray (tyInt w8) 128) l₁₂)
-        ∷ ‵ (fdies (tyRef erased mut (tyArray (tyInt w64) 2306)) l₁₃)
+        ∷ ‵ (fdies (tyInt w64) l₈)
+        ∷ ‵ (fdies (tyArray (tyInt w8) 128) l₉)
+        ∷ ‵ (fdies Pt′.mir l₁₀)
+        ∷ ‵ (fdies Or′.mir l₁₁)
+        ∷ ‵ (fdies Oc′.mir l₁₂)
+        ∷ ‵ (fdies (tyArray (tyInt w8) 128) l₁₃)
         ∷ ‵ (fdies (tyRef erased mut (tyArray (tyInt w64) 2306)) l₁₄)
-        ∷ ‵ (fdies (tyRef erased mut (tyArray (tyInt w8) 32768)) l₁₅)
-        ∷ ‵ (fdies (tyRef erased mut (tyArray (tyInt w8) 128)) l₁₆)
-        ∷ ‵ (fdies (tyRef erased mut (tyInt w64)) l₁₇)
-        ∷ ‵ (fdies (sliceTy (tyRef erased mut (tyInt w64))) l₁₈)
-        ∷ ‵ (fdies tyBool l₁₉)
-        ∷ ‵ (fdies (tyInt w64) l₂₀)
-        ∷ ‵ (fdies tyPtr l₂₁)
+        ∷ ‵ (fdies (tyRef erased mut (tyArray (tyInt w64) 2306)) l₁₅)
+        ∷ ‵ (fdies (tyRef erased mut (tyArray (tyInt w8) 32768)) l₁₆)
+        ∷ ‵ (fdies (tyRef erased mut (tyArray (tyInt w8) 128)) l₁₇)
+        ∷ ‵ (fdies (tyRef erased mut (tyInt w64)) l₁₈)
+        ∷ ‵ (fdies (sliceTy (tyRef erased mut (tyInt w64))) l₁₉)
+        ∷ ‵ (fdies tyBool l₂₀)
+        ∷ ‵ (fdies (tyInt w64) l₂₁)
         ∷ ‵ (fdies tyPtr l₂₂)
-        ∷ ‵ (fdies Or′.mir l₂₃)
-        ∷ ‵ (fdies (tyRef erased mut (tyArray (tyInt w64) 2306)) l₂₄)
-        ∷ ‵ (fdies (tyRef erased mut (tyArray (tyInt w8) 128)) l₂₅)
-        ∷ ‵ (fdies (tyInt w64) l₂₆)
-        ∷ ‵ (fdies tyPtr l₂₇)
+        ∷ ‵ (fdies tyPtr l₂₃)
+        ∷ ‵ (fdies Or′.mir l₂₄)
+        ∷ ‵ (fdies (tyRef erased mut (tyArray (tyInt w64) 2306)) l₂₅)
+        ∷ ‵ (fdies (tyRef erased mut (tyArray (tyInt w8) 128)) l₂₆)
+        ∷ ‵ (fdies (tyInt w64) l₂₇)
         ∷ ‵ (fdies tyPtr l₂₈)
-        ∷ ‵ (fdies Or′.mir l₂₉)
-        ∷ ‵ (fdies (tyInt w64) l₃₀)
-        ∷ ‵ (fdies tyPtr l₃₁)
+        ∷ ‵ (fdies tyPtr l₂₉)
+        ∷ ‵ (fdies Or′.mir l₃₀)
+        ∷ ‵ (fdies (tyInt w64) l₃₁)
         ∷ ‵ (fdies tyPtr l₃₂)
         ∷ ‵ (fdies tyPtr l₃₃)
         ∷ ‵ (fdies tyPtr l₃₄)
-        ∷ ‵ (fdies (tyInt w64) l₃₅)
-        ∷ ‵ (fdies tyPtr l₃₆)
-        ∷ ‵ (fdies tyPtr l₃₇) ∷ []
+        ∷ ‵ (fdies tyPtr l₃₅)
+        ∷ ‵ (fdies (tyInt w64) l₃₆)
+        ∷ ‵ (fdies tyPtr l₃₇)
+        ∷ ‵ (fdies tyPtr l₃₈) ∷ []
 
     -- what is owned: what is lent; the text; the locals, the point's and the outcome's as they are given
     abbrev owned : (os : List Order) (rm wn an tx : List ℕ) → Item 𝓤 → Item 𝓤 → List (Item 𝓤)
     owned os rm wn an tx point slot =
         lent os rm wn an (
-        ‵ (mem Text .lies tx l₈ 0)
+        ‵ (mem Text .lies tx l₉ 0)
         ∷ params (
         point
-        ∷ ‵ (froom Or′.mir l₁₀ 0)
+        ∷ ‵ (froom Or′.mir l₁₁ 0)
         ∷ slot
         ∷ unused))
 
     -- the outcome's local while it is not in use
     abbrev pub free : Item 𝓤
-    free = ‵ (froom Oc′.mir l₁₁ 0)
+    free = ‵ (froom Oc′.mir l₁₂ 0)
 
     abbrev pub Γ : (os : List Order) (rm wn an tx : List ℕ) (pt : Point) → Item 𝓤 → List (Item 𝓤)
-    Γ os rm wn an tx pt slot = owned os rm wn an tx (‵ (fat fullShare Pt′.mir l₉ 0 (LL.val Pt.the-type Pt′.the-laws pt))) slot
+    Γ os rm wn an tx pt slot = owned os rm wn an tx (‵ (fat fullShare Pt′.mir l₁₀ 0 (LL.val Pt.the-type Pt′.the-laws pt))) slot
 
     -- the same before the first turn: once the text is there, and before
     abbrev pub Γb : (os : List Order) (rm wn an tx : List ℕ) → List (Item 𝓤)
-    Γb os rm wn an tx = owned os rm wn an tx (‵ (froom Pt′.mir l₉ 0)) free
+    Γb os rm wn an tx = owned os rm wn an tx (‵ (froom Pt′.mir l₁₀ 0)) free
 
     abbrev pub Γa : (os : List Order) (rm wn an : List ℕ) → List (Item 𝓤)
     Γa os rm wn an =
         lent os rm wn an (params (
-        ‵ (froom (tyArray (tyInt w8) 128) l₈ 0)
-        ∷ ‵ (froom Pt′.mir l₉ 0)
-        ∷ ‵ (froom Or′.mir l₁₀ 0)
+        ‵ (froom (tyArray (tyInt w8) 128) l₉ 0)
+        ∷ ‵ (froom Pt′.mir l₁₀ 0)
+        ∷ ‵ (froom Or′.mir l₁₁ 0)
         ∷ free
         ∷ unused))

@@ -81,17 +81,17 @@ module _ {M : Type 1} (𝓤 : URA M) (H : Heap 𝓤) (A : Atoms 𝓤) (W : Given
       forget ! 0 refl $ keep ! (0 ∷ []) $ done !)
 
 module _ (z : Locals) where
-  open Locals z using (κ, κ₁, κ₂, κ₃, κ₄, q, q₁, q₂, q₃, q₄, b, o, γ, h, b₁, o₁, γ₁, b₂, o₂, γ₂, p₃, single, count, b₄, o₄, n₄, γ₄, l₀, l₁, l₂, l₃, l₄, l₅, l₆, l₇, l₈, l₉, l₁₀, l₁₁, l₁₂, l₁₃, l₁₄, l₁₅, l₁₆, l₁₇, l₁₈, l₁₉, l₂₀, l₂₁, l₂₂, l₂₃, l₂₄, l₂₅, l₂₆, l₂₇, l₂₈, l₂₉, l₃₀, l₃₁, l₃₂, l₃₃, l₃₄, l₃₅, l₃₆, l₃₇)
+  open Locals z using (κ, κ₁, κ₂, κ₃, κ₄, q, q₁, q₂, q₃, q₄, b, o, γ, h, b₁, o₁, γ₁, b₂, o₂, γ₂, p₃, single, count, b₄, o₄, n₄, γ₄, due, l₀, l₁, l₂, l₃, l₄, l₅, l₆, l₇, l₈, l₉, l₁₀, l₁₁, l₁₂, l₁₃, l₁₄, l₁₅, l₁₆, l₁₇, l₁₈, l₁₉, l₂₀, l₂₁, l₂₂, l₂₃, l₂₄, l₂₅, l₂₆, l₂₇, l₂₈, l₂₉, l₃₀, l₃₁, l₃₂, l₃₃, l₃₄, l₃₅, l₃₆, l₃₇, l₃₈)
 
   module _ {M : Type 1} (𝓤 : URA M) (H : Heap 𝓤) (A : Atoms 𝓤) (W : Given 𝓤 H A) (at-mem : Memory → SProp 𝓤) (run : Routine → Fun 𝓤) (C : Calls 𝓤 H) (Λ : Loops 𝓤 H) (fm : FmC 𝓤 H (W .laws) C) (finish-known : Triple 𝓤 (C #ended) (Plain.Finish 𝓤 H A W at-mem run)) (Post : Val → SProp 𝓤) (task : Task) (counted : task .count ≡ count) (fits : count < 2 ^ 64)
-      (exits : (os : List Order) (rm wn an : List ℕ) (pt : Point) (r : Ended) (v : Val) → length an ≡ n₄ → Over task (p₃ .now) single os rm wn an pt → r ≡ Plain.due 𝓤 H A W at-mem run count pt → ent 𝓤 (⋆ 𝓤 H A (‵ (fobs γ (T.the-row .coded .code (record { orders = os }))) ∷ ‵ (fbor κ (Body (mem T.the-row) b o γ)) ∷ ‵ (flft κ q) ∷ ‵ (MutRef (named 1) κ₁ Rooms .own (reft b₁ o₁ γ₁ rm) (vptr b₁ o₁ ∷ [])) ∷ ‵ (flft κ₁ q₁) ∷ ‵ (MutRef (named 2) κ₂ Places .own (reft b₂ o₂ γ₂ wn) (vptr b₂ o₂ ∷ [])) ∷ ‵ (flft κ₂ q₂) ∷ ‵ (flft κ₃ q₃) ∷ ‵ (MutSlice (named 4) κ₄ u64 .own (reft b₄ o₄ γ₄ an) (sliceVal (b₄, o₄) n₄ ∷ [])) ∷ ‵ (flft κ₄ q₄) ∷ ‵ (Ed.the-row .own r (v ∷ [])) ∷ [])) (Post v))
+      (exits : (os : List Order) (rm wn an : List ℕ) (pt : Point) (r : Ended) (v : Val) → length an ≡ n₄ → Over task (p₃ .now) single os rm wn an pt → r ≡ Plain.told 𝓤 H A W at-mem run count pt → ent 𝓤 (⋆ 𝓤 H A (‵ (fobs γ (T.the-row .coded .code (record { orders = os }))) ∷ ‵ (fbor κ (Body (mem T.the-row) b o γ)) ∷ ‵ (flft κ q) ∷ ‵ (MutRef (named 1) κ₁ Rooms .own (reft b₁ o₁ γ₁ rm) (vptr b₁ o₁ ∷ [])) ∷ ‵ (flft κ₁ q₁) ∷ ‵ (MutRef (named 2) κ₂ Places .own (reft b₂ o₂ γ₂ wn) (vptr b₂ o₂ ∷ [])) ∷ ‵ (flft κ₂ q₂) ∷ ‵ (flft κ₃ q₃) ∷ ‵ (MutSlice (named 4) κ₄ u64 .own (reft b₄ o₄ γ₄ an) (sliceVal (b₄, o₄) n₄ ∷ [])) ∷ ‵ (flft κ₄ q₄) ∷ ‵ (Ed.the-row .own r (v ∷ [])) ∷ [])) (Post v))
       (os : List Order) (rm wn an tx : List ℕ) (pt : Point) (is : Is Pt.the-row pt (LL.vals Pt.the-type Pt′.the-laws pt)) (wide : length an ≡ n₄) (many : length os ≡ 256) (over : Over task (p₃ .now) single os rm wn an pt) where
     pub leaves : ent 𝓤 (⋆ 𝓤 H A (Γ z 𝓤 H A W os rm wn an tx pt (free z 𝓤 H A W))) (Wp 𝓤 H C Λ (En z 𝓤 H A W) t-6 (atReturn 𝓤 H (En z 𝓤 H A W) Post))
     leaves =
         qed W (Γ z 𝓤 H A W os rm wn an tx pt (free z 𝓤 H A W)) ∵ exec ! C Λ (En z 𝓤 H A W) t-6 (atRet (En z 𝓤 H A W) Post) $
         use0 W (raw (Plain.Finish 𝓤 H A W at-mem run .pre (Plain.to-finish 𝓤 H A W at-mem run count pt))) (Plain.finish-asks 𝓤 H A W at-mem run count pt fits is (subst (λ (n : ℕ). pt .turn .left ≤ n) counted (over .left))) $
-        calls-at ! fm (Plain.Finish 𝓤 H A W at-mem run) finish-known (Plain.to-finish 𝓤 H A W at-mem run count pt) (and-then ! (load ! (from ! (stop !)) (look ! 21 refl)) (and-then ! (load ! (from ! (stop !)) (look ! 23 refl)) (no-more !))) (λ v.
-        use1 W (later (some (λ (r : Ended). given (r ≡ Plain.due 𝓤 H A W at-mem run count pt) (‵ (Ed.the-row .own r (v ∷ [])))))) (Plain.finish-gives 𝓤 H A W at-mem run count pt v) $ await ! tt $ pick ! (λ r.
+        calls-at ! fm (Plain.Finish 𝓤 H A W at-mem run) finish-known (Plain.to-finish 𝓤 H A W at-mem run count pt) (and-then ! (load ! (from ! (stop !)) (look ! 21 refl)) (and-then ! (load ! (from ! (stop !)) (look ! 24 refl)) (no-more !))) (λ v.
+        use1 W (later (some (λ (r : Ended). given (r ≡ Plain.told 𝓤 H A W at-mem run count pt) (‵ (Ed.the-row .own r (v ∷ [])))))) (Plain.finish-gives 𝓤 H A W at-mem run count pt v) $ await ! tt $ pick ! (λ r.
         learn ! (λ e.
         peeks ! Ed.the-row (Is Ed.the-row) (shows 𝓤 H A Ed.the-row) r (v ∷ []) (λ end-is.
         land ! (from ! (stop !)) (init ! 15 refl (LL.lawful Ed.the-type Ed′.the-laws 𝓤 H A W .typed r _ end-is .0)) $
@@ -100,10 +100,10 @@ module _ (z : Locals) where
         move ! (0 ∷ 2 ∷ 3 ∷ 4 ∷ []) $
         close-ref ! tt (mem T.the-row) (record { orders = os }) {b = b} {o = o} $
         move ! (12 ∷ []) $
-        use1 W (‵ (froom (tyArray (tyInt w8) 128) l₈ 0)) (freed 𝓤 H A W 128 tx l₈) $
+        use1 W (‵ (froom (tyArray (tyInt w8) 128) l₉ 0)) (freed 𝓤 H A W 128 tx l₉) $
         returns ! (look ! 13 refl) $
         forget ! 13 refl $ forget ! 14 refl $ forget ! 15 refl $ forget ! 16 refl $ forget ! 17 refl $ forget ! 18 refl $ forget ! 19 refl $
-        forget ! 20 refl $ forget ! 21 refl $ move ! (13 ∷ 50 ∷ []) $ free1 ! $ move ! (13 ∷ 49 ∷ []) $ free1 ! $ move ! (13 ∷ 48 ∷ []) $ free1 ! $
+        forget ! 20 refl $ forget ! 21 refl $ forget ! 22 refl $ move ! (13 ∷ 51 ∷ []) $ free1 ! $ move ! (13 ∷ 50 ∷ []) $ free1 ! $ move ! (13 ∷ 49 ∷ []) $ free1 ! $ move ! (13 ∷ 48 ∷ []) $ free1 ! $
         move ! (13 ∷ 47 ∷ []) $ free1 ! $ move ! (13 ∷ 46 ∷ []) $ free1 ! $ move ! (13 ∷ 45 ∷ []) $ free1 ! $ move ! (13 ∷ 44 ∷ []) $ free1 ! $
         move ! (13 ∷ 43 ∷ []) $ free1 ! $ move ! (0 ∷ 42 ∷ []) $ free1 ! $ move ! (12 ∷ 41 ∷ []) $ free1 ! $ move ! (12 ∷ 40 ∷ []) $ free1 ! $
         move ! (12 ∷ 39 ∷ []) $ free1 ! $ move ! (12 ∷ 38 ∷ []) $ free1 ! $ move ! (12 ∷ 37 ∷ []) $ free1 ! $ move ! (12 ∷ 36 ∷ []) $ free1 ! $

@@ -73,7 +73,7 @@ use Rattle.session_lent.proofs.run.Proof.Leaving.{leaves}
 use Rattle.session_lent.proofs.run.Code.Mir.{turn-1, t-6}
 
 module _ (z : Locals) where
-  open Locals z using (κ, κ₁, κ₂, κ₃, κ₄, q, q₁, q₂, q₃, q₄, b, o, γ, h, b₁, o₁, γ₁, b₂, o₂, γ₂, p₃, single, count, b₄, o₄, n₄, γ₄, l₀, l₁, l₂, l₃, l₄, l₅, l₆, l₇, l₈, l₉, l₁₀, l₁₁, l₁₂, l₁₃, l₁₄, l₁₅, l₁₆, l₁₇, l₁₈, l₁₉, l₂₀, l₂₁, l₂₂, l₂₃, l₂₄, l₂₅, l₂₆, l₂₇, l₂₈, l₂₉, l₃₀, l₃₁, l₃₂, l₃₃, l₃₄, l₃₅, l₃₆, l₃₇)
+  open Locals z using (κ, κ₁, κ₂, κ₃, κ₄, q, q₁, q₂, q₃, q₄, b, o, γ, h, b₁, o₁, γ₁, b₂, o₂, γ₂, p₃, single, count, b₄, o₄, n₄, γ₄, due, l₀, l₁, l₂, l₃, l₄, l₅, l₆, l₇, l₈, l₉, l₁₀, l₁₁, l₁₂, l₁₃, l₁₄, l₁₅, l₁₆, l₁₇, l₁₈, l₁₉, l₂₀, l₂₁, l₂₂, l₂₃, l₂₄, l₂₅, l₂₆, l₂₇, l₂₈, l₂₉, l₃₀, l₃₁, l₃₂, l₃₃, l₃₄, l₃₅, l₃₆, l₃₇, l₃₈)
 
   -- where the loop is between two turns
   pub record State (task : Task) : Type 0 where
@@ -90,7 +90,7 @@ module _ (z : Locals) where
   module _ {M : Type 1} (𝓤 : URA M) (H : Heap 𝓤) (A : Atoms 𝓤) (W : Given 𝓤 H A) (at-mem : Memory → SProp 𝓤) (run : Routine → Fun 𝓤) (𝓣 : Tables 𝓤 H)
       (advance-known : Triple 𝓤 (𝓣 .C #advance) (Advance.Callee 𝓤 H A at-mem run)) (settle-known : Triple 𝓤 (𝓣 .C #settle) (Settle.Callee 𝓤 H A at-mem run)) (none-known : Triple 𝓤 (𝓣 .C #none) (Plain.None 𝓤 H A W at-mem run)) (finish-known : Triple 𝓤 (𝓣 .C #ended) (Plain.Finish 𝓤 H A W at-mem run))
       (Post : Val → SProp 𝓤) (task : Task) (counted : task .count ≡ count) (fits : count < 2 ^ 64) (space : Room u64 n₄)
-      (ends : (os : List Order) (rm wn an : List ℕ) (pt : Point) (r : Ended) (v : Val) → length an ≡ n₄ → Over task (p₃ .now) single os rm wn an pt → r ≡ Plain.due 𝓤 H A W at-mem run count pt → ent 𝓤 (⋆ 𝓤 H A (‵ (fobs γ (T.the-row .coded .code (record { orders = os }))) ∷ ‵ (fbor κ (Body (mem T.the-row) b o γ)) ∷ ‵ (flft κ q) ∷ ‵ (MutRef (named 1) κ₁ Rooms .own (reft b₁ o₁ γ₁ rm) (vptr b₁ o₁ ∷ [])) ∷ ‵ (flft κ₁ q₁) ∷ ‵ (MutRef (named 2) κ₂ Places .own (reft b₂ o₂ γ₂ wn) (vptr b₂ o₂ ∷ [])) ∷ ‵ (flft κ₂ q₂) ∷ ‵ (flft κ₃ q₃) ∷ ‵ (MutSlice (named 4) κ₄ u64 .own (reft b₄ o₄ γ₄ an) (sliceVal (b₄, o₄) n₄ ∷ [])) ∷ ‵ (flft κ₄ q₄) ∷ ‵ (Ed.the-row .own r (v ∷ [])) ∷ [])) (Post v)) where
+      (ends : (os : List Order) (rm wn an : List ℕ) (pt : Point) (r : Ended) (v : Val) → length an ≡ n₄ → Over task (p₃ .now) single os rm wn an pt → r ≡ Plain.told 𝓤 H A W at-mem run count pt → ent 𝓤 (⋆ 𝓤 H A (‵ (fobs γ (T.the-row .coded .code (record { orders = os }))) ∷ ‵ (fbor κ (Body (mem T.the-row) b o γ)) ∷ ‵ (flft κ q) ∷ ‵ (MutRef (named 1) κ₁ Rooms .own (reft b₁ o₁ γ₁ rm) (vptr b₁ o₁ ∷ [])) ∷ ‵ (flft κ₁ q₁) ∷ ‵ (MutRef (named 2) κ₂ Places .own (reft b₂ o₂ γ₂ wn) (vptr b₂ o₂ ∷ [])) ∷ ‵ (flft κ₂ q₂) ∷ ‵ (flft κ₃ q₃) ∷ ‵ (MutSlice (named 4) κ₄ u64 .own (reft b₄ o₄ γ₄ an) (sliceVal (b₄, o₄) n₄ ∷ [])) ∷ ‵ (flft κ₄ q₄) ∷ ‵ (Ed.the-row .own r (v ∷ [])) ∷ [])) (Post v)) where
     abbrev fm : FmC 𝓤 H (W .laws) (𝓣 .C)
     fm = fmOf 𝓤 H (W .laws) 𝓣
 

@@ -85,12 +85,12 @@ module _ {M : Type 1} (𝓤 : URA M) (H : Heap 𝓤) (A : Atoms 𝓤) (W : Given
         qed W [] ∵ says ! left $ nothing ! $ frame ! $ nothing ! $ owned ! Pt.the-row (Is Pt.the-row) (LL.makes Pt.the-type Pt′.the-plain 𝓤 H A) pt (LL.vals Pt.the-type Pt′.the-laws pt) is $ fjoin ! $
         owned ! usize (Is usize) (uint-makes 𝓤 H A W w64) count (vint w64 count ∷ []) (refl, fits) $ fjoin ! $ done !
 
-    abbrev pub due : Ended
-    due = record { taken = count - pt .turn .left; at = pt .turn .at }
+    abbrev pub told : Ended
+    told = record { taken = count - pt .turn .left; at = pt .turn .at }
 
-    pub finish-gives : (v : Val) → ent 𝓤 (Finish .post to-finish v) (H .⇛ (ex 𝓤 (λ (r : Ended). guard 𝓤 (r ≡ due) (sem 𝓤 H A (Ed.the-row .own r (v ∷ []))))))
+    pub finish-gives : (v : Val) → ent 𝓤 (Finish .post to-finish v) (H .⇛ (ex 𝓤 (λ (r : Ended). guard 𝓤 (r ≡ told) (sem 𝓤 H A (Ed.the-row .own r (v ∷ []))))))
     finish-gives v =
         qed W (raw (Finish .post to-finish v) ∷ []) ∵ updating ! $
         use1 W (later (some (λ (r : Ended). (‵ ftrue ⊛ ‵ (Ed.the-row .own r (v ∷ []))) ⊛ raw (ensured 𝓤 H A fin.ended (fin.clauses 𝓤 H A at-mem run) tt (count, (pt, tt)) tt r)))) (id⊢ 𝓤 _) $ await ! tt $ pick ! (λ r. split ! $ move ! (1 ∷ []) $
-        use1 W (some (λ (ws : Lasts fin.ended tt (count, (pt, tt))). ‵ (lasts fin.ended tt (count, (pt, tt)) ws) ⊛ raw (fact 𝓤 (r ≡ due)))) (id⊢ 𝓤 _) $ pick ! (λ ws. split ! $ move ! (1 ∷ []) $ heard ! (r ≡ due) (λ e. drop ! $ split ! $ drop ! $
-        at-once ! $ show ! (λ (x : Ended). guard 𝓤 (x ≡ due) (sem 𝓤 H A (Ed.the-row .own x (v ∷ [])))) r $ check ! e $ done !)))
+        use1 W (some (λ (ws : Lasts fin.ended tt (count, (pt, tt))). ‵ (lasts fin.ended tt (count, (pt, tt)) ws) ⊛ raw (fact 𝓤 (r ≡ told)))) (id⊢ 𝓤 _) $ pick ! (λ ws. split ! $ move ! (1 ∷ []) $ heard ! (r ≡ told) (λ e. drop ! $ split ! $ drop ! $
+        at-once ! $ show ! (λ (x : Ended). guard 𝓤 (x ≡ told) (sem 𝓤 H A (Ed.the-row .own x (v ∷ [])))) r $ check ! e $ done !)))

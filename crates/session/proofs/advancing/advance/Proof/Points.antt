@@ -171,11 +171,14 @@ module _ {Inv : tie.InvT-loop} {μ : tie.MeasureT-loop} where
   abbrev pub free-from-else3 : tie.Else3 Inv μ → tie.After-free Inv μ
   free-from-else3 c = c .before .before .before .before .before .before .before
 
+  abbrev pub onward-from-apply : tie.After-apply Inv μ → tie.After-onward Inv μ
+  onward-from-apply c = c .before .before .before .before .before
+
   abbrev pub onward-from-at-hand : tie.After-at-hand Inv μ → tie.After-onward Inv μ
-  onward-from-at-hand c = c .before .before .before .before .before .before .before
+  onward-from-at-hand c = onward-from-apply (c .before .before)
 
   abbrev pub onward-from-else3 : tie.Else3 Inv μ → tie.After-onward Inv μ
-  onward-from-else3 c = c .before .before .before .before .before .before
+  onward-from-else3 c = onward-from-apply (c .before)
 
   abbrev pub message-from-apply-arg : tie.After-apply-arg Inv μ → tie.After-message Inv μ
   message-from-apply-arg c = c .before

@@ -1,0 +1,2 @@
+-- Laws of `window_keeping`.
+pub mod Bursts
