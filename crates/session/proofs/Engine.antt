@@ -110,7 +110,7 @@ module _ {t : Task} {s : List ℕ} {single : Bool} {os : List Order} {room windo
       (record { waits = λ h. never (sym h); place = λ h. never (sym h); fewer = λ h. never (sym h); over = λ _. over; long = long })
 
   pub came-waits : {r : Point} (touched : Touch) {here : PacketRest} {size next : ℕ} {turn : Turn} {rest : PacketRest} → r ≡ atHandOf touched here size next turn rest
-      → Waits t s single os room window answers text (atHandOf touched here size next turn rest) → turnsLeft turn rest < stepsLeft before
+      → Waits t s single os room window answers text (atHandOf touched here size next turn rest) → turnsLeft turn next rest < stepsLeft before
       → length answers ≡ t .space → Came t s single os room window answers text before r
   came-waits touched e waits fewer long =
       subst (Came t s single os room window answers text before) (sym e)

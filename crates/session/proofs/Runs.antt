@@ -38,7 +38,7 @@ use Rattle.book_room.specs.Arms.{after, namedIn}
 use Rattle.book_room.specs.Room.{Houses, partsOf, roomOf}
 use Rattle.book.proofs.Keeping as keeping
 use Rattle.book.proofs.Steps.{found-within}
-use Rattle.session_message.specs.AtNext.{Begins, Goes, Lies as InBytes, beginOf as beginsAt, dueOf, dueSize, messageAt, onwardOf, sizeIn, textAfter, windowAfter}
+use Rattle.session_message.specs.AtNext.{Begins, Goes, Lies as InBytes, dueOf, dueSize, messageAt, onwardOf, sizeIn, textAfter, windowAfter}
 use Rattle.session_message.specs.declared.PacketRest.{PacketRest}
 use Rattle.session_message.proofs.Choices.{freed-packet, freed-window, message-packet, message-window, onward-packet, onward-window, size-packet, size-window, text-packet, text-window}
 use Rattle.window_taking.specs.Keeping.{Known, Neat, admittedOf, countOf, heldBy, keptBy, startsAt, stateOf, straightIn, waitingOf, windowFor}
@@ -220,6 +220,7 @@ module _ (task : Task) (x : Meaning) (s : List ℕ) (single : Bool) (answers : L
   record Due : Type 0 where
     is : takeOne overnight x (packetAt single s at) ≡ finish (keptBy x (packetAt single s at)) (record { left = turn .direct; from = turn .from })
     few : dueOf (record { left = turn .direct; from = turn .from }) ≤ 256
+    level : (turn .direct ≡ 0 → ⊥) → x .next + turn .direct ≡ keptBy x (packetAt single s at) .end
 
   due-by : (o : Option (Packet (List ℕ))) → judge x (packetAt single s at) ≡ o → Due
   unfolding takeOne takeIf keptIf applyUpTo
@@ -230,6 +231,7 @@ module _ (task : Task) (x : Meaning) (s : List ℕ) (single : Bool) (answers : L
       record {
         is = ap (takeIf overnight x) e ∙ sym (ap₂ (applyUpTo feed) due (ap (keptIf x) e));
         few = omega (arith, due);
+        level = λ some-straight. absurd (some-straight nothing);
       }
   due-by (some q) e = by-cases (ℕ-discrete (turn .direct) 0) waits straight
     where
@@ -240,7 +242,7 @@ module _ (task : Task) (x : Meaning) (s : List ℕ) (single : Bool) (answers : L
       waits nothing =
           let yes : eqb (turn .refusal) 0 ≡ true = ap (λ (n : ℕ). eqb n 0) refusal-is ∙ accepted-not x (packetAt single s at) e in
           let due : dueOf (record { left = turn .direct; from = turn .from }) ≡ 256 = due-none nothing ∙ ap (λ (b : Bool). cond b 256 0) yes in
-          record { is = taken-is ∙ ap (λ (n : ℕ). applyUpTo feed n (keptBy x (packetAt single s at))) (sym due); few = omega (arith, due) }
+          record { is = taken-is ∙ ap (λ (n : ℕ). applyUpTo feed n (keptBy x (packetAt single s at))) (sym due); few = omega (arith, due); level = λ some-straight. absurd (some-straight nothing) }
 
       straight : (turn .direct ≡ 0 → ⊥) → Due
       straight some-straight =
@@ -259,6 +261,7 @@ module _ (task : Task) (x : Meaning) (s : List ℕ) (single : Bool) (answers : L
                 ∙ sym (apply-enough feed 256 (turn .direct) (keptBy x (packetAt single s at)) settles)
                 ∙ ap (λ (n : ℕ). applyUpTo feed n (keptBy x (packetAt single s at))) (few ∙ sym (due-some some-straight));
             few = omega (arith, due-some some-straight, fits);
+            level = λ again. sym ends-at;
           }
 
   due : Due
@@ -308,6 +311,7 @@ module _ (task : Task) (x : Meaning) (s : List ℕ) (single : Bool) (answers : L
         at = nexts ∙ sym (kn .0);
         end = ap (λ (t : Turn). t .end) turned ∙ state-end x g window nexts ends (packetAt single s at);
         low = omega arith;
+        level = λ some-straight. ap (λ (n : ℕ). n + turn .direct) nexts ∙ due .level some-straight ∙ sym (ap (λ (t : Turn). t .end) turned ∙ state-end x g window nexts ends (packetAt single s at));
         within = omega (arith, lie .within, ats);
         left = omega (arith, fewer, lefts);
         taken = omega (arith, many, lefts, ap length rests);
@@ -340,14 +344,14 @@ none-ahead : (s : List ℕ) (left from next : ℕ) (w : List ℕ) (waiting : ℕ
 none-ahead s left from next w waiting e a = subst (λ (n : ℕ). Ahead s n from next w waiting) e a
 
 -- what the code knows of a message at next, once it is copied out
-pub record Here (s : List ℕ) (rest : PacketRest) (size : ℕ) (text : List ℕ) (next : ℕ) : Type 0 where
+pub record Here (s : List ℕ) (rest : PacketRest) (size : ℕ) (text : List ℕ) (turn : Turn) (next : ℕ) : Type 0 where
   pub whole : Whole (messageAt text s rest size)
   pub lies : InBytes s rest size
   pub cut : size ≤ length text
   pub long : size ≡ length (take size text)
   pub wide : length text ≡ 128
   pub below : next < 4294967296
-  pub fewer : dueOf (onwardOf rest size) < dueOf rest
+  pub fewer : turnsLeft turn (next + 1) (onwardOf rest size) < turnsLeft turn next rest
 
 -- the size of what waits, where one is due
 record DueSize (due n : ℕ) : Type 0 where
@@ -370,14 +374,6 @@ due-window rest e = ap (λ (b : Bool). cond b (rest .from) (rest .left)) (eq-eqb
 
 due-packet : (rest : PacketRest) → (rest .left ≡ 0 → ⊥) → dueOf rest ≡ rest .left
 due-packet rest n = ap (λ (b : Bool). cond b (rest .from) (rest .left)) (ne-eqb (rest .left) 0 n)
-
--- behind the last one in the packet none is due
-due-behind : (left from : ℕ) → dueOf (record { left = left; from = beginsAt left from }) ≡ left
-due-behind left from = go (eqb left 0) refl
-  where
-    go : (b : Bool) → eqb left 0 ≡ b → dueOf (record { left = left; from = beginsAt left from }) ≡ left
-    go true e = (λ i. cond (e i) (cond (e i) 0 from) left) ∙ sym (eqb-true left 0 e)
-    go false e = (λ i. cond (e i) (cond (e i) 0 from) left)
 
 -- what waits at next, by the size where it lies
 module _ {task : Task} {s : List ℕ} {single : Bool} {answers : List ℕ} {os : List Order} {numbers w : List ℕ} {next : ℕ} {turn : Turn} {rest : PacketRest}
@@ -588,20 +584,40 @@ module _ {task : Task} {s : List ℕ} {single : Bool} {answers : List ℕ} {os :
           some-of zero h = absurd (h refl)
           some-of (suc n) h = omega arith
 
-      -- one less is due
-      due-less : dueOf rest ≡ suc (dueOf (onwardOf rest size))
-      due-less =
+      some-one : (n : ℕ) → (n ≡ 0 → ⊥) → 1 ≤ n
+      some-one zero h = absurd (h refl)
+      some-one (suc n) h = omega arith
+
+      -- a message waits, so next is below end
+      early : next < turn .end
+      early = omega (arith, o .at, o .end, waits-where (o .good .inv) (o .state .next) waits .known)
+
+      -- one less is due; or it was the last one in the packet, and next is end behind it
+      due-less : (next + 1 ≡ turn .end → ⊥) → dueOf rest ≡ suc (dueOf (onwardOf rest size))
+      due-less more =
           by-cases (ℕ-discrete (rest .left) 0)
           (λ e.
-          let some-due : 1 ≤ rest .from = goes-due (rest .from) (sized-there e .some-due) in
+          let some-due : 1 ≤ rest .from = some-one (rest .from) (sized-there e .some-due) in
           omega (arith, due-window rest e, ap dueOf (onward-window rest e size)))
           (λ n.
-          let least : 1 ≤ rest .left = goes-due (rest .left) n in
-          omega (arith, due-packet rest n, ap dueOf (onward-packet rest n size) ∙ due-behind (rest .left - 1) (rest .from + size)))
-        where
-          goes-due : (n : ℕ) → (n ≡ 0 → ⊥) → 1 ≤ n
-          goes-due zero h = absurd (h refl)
-          goes-due (suc n) h = omega arith
+          let least : 1 ≤ rest .left = some-one (rest .left) n in
+          let others : rest .left - 1 ≡ 0 → ⊥ = λ z. more (omega (arith, o .level n, least, z)) in
+          omega (arith, due-packet rest n, least, ap dueOf (onward-packet rest n size) ∙ due-packet (record { left = rest .left - 1; from = rest .from + size }) others))
+
+      some-due : 1 ≤ dueOf rest
+      some-due =
+          by-cases (ℕ-discrete (rest .left) 0)
+          (λ e. omega (arith, due-window rest e, some-one (rest .from) (sized-there e .some-due)))
+          (λ n. omega (arith, due-packet rest n, some-one (rest .left) n))
+
+      due-here : cond (eqb next (turn .end)) 0 (dueOf rest) ≡ dueOf rest
+      due-here = ap (λ (b : Bool). cond b 0 (dueOf rest)) (ne-eqb next (turn .end) (λ e. omega (arith, early, e)))
+
+      due-fewer : cond (eqb (next + 1) (turn .end)) 0 (dueOf (onwardOf rest size)) < cond (eqb next (turn .end)) 0 (dueOf rest)
+      due-fewer =
+          by-cases (ℕ-discrete (next + 1) (turn .end))
+          (λ e. omega (arith, due-here, some-due, ap (λ (b : Bool). cond b 0 (dueOf (onwardOf rest size))) (eq-eqb (next + 1) (turn .end) e)))
+          (λ n. omega (arith, due-here, due-less n, ap (λ (b : Bool). cond b 0 (dueOf (onwardOf rest size))) (ne-eqb (next + 1) (turn .end) n)))
 
       number-below : next < 4294967296
       number-below = omega (arith, o .at, waits-below (o .good) (o .state .next) waits)
@@ -619,11 +635,22 @@ module _ {task : Task} {s : List ℕ} {single : Bool} {answers : List ℕ} {os :
       moved : Meaning
       moved = step feed (o .state) (some m)
 
-      onward : finish (o .state) rest ≡ finish moved (onwardOf rest size)
+      -- where next is end behind it, nothing waits, and whatever is due is nothing
+      moved-level : next + 1 ≡ turn .end → (c : ℕ) → applyUpTo feed c moved ≡ moved
+      unfolding moved step
+      moved-level e c = stuck feed c (nothing-waits (good-step (o .good) waits .inv) (omega (arith, o .at, o .end, e)) (o .state .next + 1))
+
+      one-step : (c : ℕ) → applyUpTo feed (suc c) (o .state) ≡ applyUpTo feed c moved
       unfolding applyUpTo moved
+      one-step c = ap (λ (q : Option (List ℕ)). applyUpTo feed c (step feed (o .state) q)) waits
+
+      onward : finish (o .state) rest ≡ finish moved (onwardOf rest size)
       onward =
-          ap (λ (n : ℕ). applyUpTo feed n (o .state)) due-less
-          ∙ ap (λ (q : Option (List ℕ)). applyUpTo feed (dueOf (onwardOf rest size)) (step feed (o .state) q)) waits
+          by-cases (ℕ-discrete (next + 1) (turn .end))
+          (λ e.
+          let some-steps : dueOf rest ≡ suc (dueOf rest - 1) = omega (arith, some-due) in
+          ap (λ (n : ℕ). applyUpTo feed n (o .state)) some-steps ∙ one-step (dueOf rest - 1) ∙ moved-level e (dueOf rest - 1) ∙ sym (moved-level e (dueOf (onwardOf rest size))))
+          (λ n. ap (λ (k : ℕ). applyUpTo feed k (o .state)) (due-less n) ∙ one-step (dueOf (onwardOf rest size)))
 
       -- the place in the window is free
       freed-place : rest .left ≡ 0 → splice w (startOf (next % 256)) (zeros 128) ≡ windowFor (moved .waiting) (moved .next)
@@ -652,14 +679,19 @@ module _ {task : Task} {s : List ℕ} {single : Bool} {answers : List ℕ} {os :
           let nought : 0 ≡ onwardOf rest size .left = sym (ap (λ (z : PacketRest). z .left) (onward-window rest e size)) in
           (subst (λ (n : ℕ). Ahead s n (onwardOf rest size .from) (moved .next) (windowAfter w rest (next % 256)) (moved .waiting)) nought is, ap length is ∙ window-size (within (good-step (o .good) waits))))
           (λ n.
-          let on : onwardOf rest size ≡ record { left = rest .left - 1; from = beginsAt (rest .left - 1) (rest .from + size) } = onward-packet rest n size in
+          let on : onwardOf rest size ≡ record { left = rest .left - 1; from = rest .from + size } = onward-packet rest n size in
           let to : rest .from + lengthAt s (rest .from) ≡ rest .from + size = ap (λ (k : ℕ). rest .from + k) (sym (size-led n)) in (
             subst (λ (z : PacketRest). Ahead s (z .left) (z .from) (moved .next) (windowAfter w rest (next % 256)) (moved .waiting)) (sym on)
-                (subst (λ (l : List ℕ). Ahead s (rest .left - 1) (beginsAt (rest .left - 1) (rest .from + size)) (moved .next) l (moved .waiting)) (sym (freed-packet rest n w (next % 256)))
-                (begun-at s (rest .left - 1) (beginsAt (rest .left - 1) (rest .from + size)) (rest .from + size) (moved .next) w (moved .waiting) (λ some-left. ap (λ (b : Bool). cond b 0 (rest .from + size)) (ne-eqb (rest .left - 1) 0 some-left))
-                (subst (λ (k : ℕ). Ahead s (rest .left - 1) k (moved .next) w (moved .waiting)) to (led-by n .rest)))),
+                (subst (λ (l : List ℕ). Ahead s (rest .left - 1) (rest .from + size) (moved .next) l (moved .waiting)) (sym (freed-packet rest n w (next % 256)))
+                (subst (λ (k : ℕ). Ahead s (rest .left - 1) k (moved .next) w (moved .waiting)) to (led-by n .rest))),
             ap length (freed-packet rest n w (next % 256)) ∙ o .long,
           ))
+
+      level-on : (onwardOf rest size .left ≡ 0 → ⊥) → next + 1 + onwardOf rest size .left ≡ turn .end
+      level-on some-left =
+          by-cases (ℕ-discrete (rest .left) 0)
+          (λ e. absurd (some-left (ap (λ (z : PacketRest). z .left) (onward-window rest e size))))
+          (λ n. omega (arith, o .level n, some-one (rest .left) n, ap (λ (z : PacketRest). z .left) (onward-packet rest n size)))
 
       pub applied : {os′ : List Order} {numbers′ w′ : List ℕ} {rest′ : PacketRest} → os′ ≡ after tabled next m .orders → numbers′ ≡ roomOf (task .next) (task .end) (after tabled next m)
           → w′ ≡ windowAfter w rest (next % 256) → rest′ ≡ onwardOf rest size → Open task s single answers os′ numbers′ w′ (next + 1) turn rest′
@@ -678,6 +710,7 @@ module _ {task : Task} {s : List ℕ} {single : Bool} {answers : List ℕ} {os :
             at = ap (λ (n : ℕ). n + 1) (o .at);
             end = o .end;
             low = omega (arith, o .low);
+            level = subst (λ (z : PacketRest). (z .left ≡ 0 → ⊥) → next + 1 + z .left ≡ turn .end) (sym on) level-on;
             within = o .within;
             left = o .left;
             taken = o .taken;
@@ -688,7 +721,7 @@ module _ {task : Task} {s : List ℕ} {single : Bool} {answers : List ℕ} {os :
             big = o .big;
           }
 
-      pub here : Here s rest size text′ next
+      pub here : Here s rest size text′ turn next
       here =
           record {
             whole = whole;
@@ -697,7 +730,7 @@ module _ {task : Task} {s : List ℕ} {single : Bool} {answers : List ℕ} {os :
             long = sym (length-take-le size text′ cut);
             wide = wider;
             below = number-below;
-            fewer = omega (arith, due-less);
+            fewer = omega (arith, due-fewer);
           }
 
       -- it is done but for what it leaves to do in the order table
@@ -753,8 +786,12 @@ module _ {task : Task} {s : List ℕ} {single : Bool} {answers : List ℕ} {os :
             record { now = applied (o .orders ∙ sym (touched .passes none-touched .orders)) (touched .passes none-touched .is) clear on; wide = wider; long = space }
 
 -- a packet more is begun: of those that follow one is less, and no more is due than can wait
-pub less-turn : (turn turn′ : Turn) (rest rest′ : PacketRest) → turn′ .left ≡ turn .left - 1 → dueOf rest′ ≤ 256 → 1 ≤ turn .left → turnsLeft turn′ rest′ < turnsLeft turn rest
-less-turn turn turn′ rest rest′ left few least = omega arith
+pub less-turn : (turn turn′ : Turn) (next : ℕ) (rest rest′ : PacketRest) → turn′ .left ≡ turn .left - 1 → dueOf rest′ ≤ 256 → 1 ≤ turn .left → turnsLeft turn′ next rest′ < turnsLeft turn next rest
+less-turn turn turn′ next rest rest′ left few least = omega (arith, no-more (eqb next (turn′ .end)) (dueOf rest′))
+  where
+    no-more : (b : Bool) (n : ℕ) → cond b 0 n ≤ n
+    no-more true n = omega arith
+    no-more false n = omega arith
 
 -- ---- from the start on
 
@@ -783,6 +820,7 @@ module _ {session : Held} (rule : Ruled session) (s : List ℕ) (single : Bool) 
         at = nexts;
         end = ap (λ (t : Turn). t .end) turned ∙ ends;
         low = omega arith;
+        level = λ some-left. absurd (some-left refl);
         within = omega (arith, ats);
         left = omega (arith, lefts);
         taken = omega (arith, lefts, ap length packets);

@@ -5,6 +5,7 @@ use mathlib.Core.Bool.{Bool, true, false, cond}
 use mathlib.Core.List.{List, _++_}
 use mathlib.Core.Option.{none, some}
 use Prim.Native.Nat.{ℕ, _+_, _-_, _*_, _≤_, _<_}
+use lib.Dec.{eqb}
 use lib.ListN.{length, getD, set}
 use Rattle.wire.specs.Number.{splice}
 use Rattle.merge.specs.State.{Packet, applyUpTo, takeAll}
@@ -119,6 +120,7 @@ pub record Open (task : Task) (s : List ℕ) (single : Bool) (answers : List ℕ
   pub at : next ≡ state .next
   pub end : turn .end ≡ state .end
   pub low : turn .before ≤ next
+  pub level : (rest .left ≡ 0 → ⊥) → next + rest .left ≡ turn .end
   pub within : turn .at ≤ length s
   pub left : turn .left ≤ task .count
   pub taken : length (packetsFrom single (task .count) 0 s) + turn .left ≡ task .count + length (restOf single s turn)
@@ -134,12 +136,12 @@ pub record Going (task : Task) (s : List ℕ) (single : Bool) (os : List Order) 
   pub wide : length text ≡ 128
   pub long : length answers ≡ task .space
 
--- the turns that are left: the messages that are due, and as many as can be due behind each packet that follows
-abbrev pub turnsLeft : Turn → PacketRest → ℕ
-turnsLeft turn rest = turn .left * 257 + dueOf rest
+-- the turns that are left: the messages that are due, none where next is end, and as many as can be due behind each packet that follows
+abbrev pub turnsLeft : Turn → ℕ → PacketRest → ℕ
+turnsLeft turn next rest = turn .left * 257 + cond (eqb next (turn .end)) 0 (dueOf rest)
 
 abbrev pub stepsLeft : Point → ℕ
-stepsLeft point = turnsLeft (point .turn) (point .rest)
+stepsLeft point = turnsLeft (point .turn) (point .next) (point .rest)
 
 -- ---- a message at hand that touches an order
 

@@ -9,7 +9,7 @@ use lib.ListN.{length, take, drop}
 use Rattle.wire.specs.Number.{num, part, splice}
 use Rattle.window.specs.Window.{sizeAt, startOf, zeros}
 use Rattle.window.proofs.Agreeing.{lent}
-use Rattle.session_message.specs.AtNext.{Lies, beginOf, dueSize, inWindow, messageAt, onwardOf, sizeIn, textAfter, windowAfter}
+use Rattle.session_message.specs.AtNext.{Lies, dueSize, inWindow, messageAt, onwardOf, sizeIn, textAfter, windowAfter}
 use Rattle.session_message.specs.declared.PacketRest.{PacketRest}
 
 module _ (x : PacketRest) (none : x .left ≡ 0) where
@@ -34,7 +34,7 @@ module _ (x : PacketRest) (none : x .left ≡ 0) where
 
   pub onward-window : (size : ℕ) → onwardOf x size ≡ record { left = 0; from = x .from - 1 }
   unfolding onwardOf
-  onward-window size = ap (λ b. cond b (record { left = 0; from = x .from - 1 }) (record { left = x .left - 1; from = beginOf (x .left - 1) (x .from + size) })) yes
+  onward-window size = ap (λ b. cond b (record { left = 0; from = x .from - 1 }) (record { left = x .left - 1; from = x .from + size })) yes
 
 module _ (x : PacketRest) (some : x .left ≡ 0 → ⊥) where
   no : inWindow x ≡ false
@@ -56,9 +56,9 @@ module _ (x : PacketRest) (some : x .left ≡ 0 → ⊥) where
   unfolding messageAt
   message-packet text s size = ap (λ b. cond b (take size text) (part s (x .from) size)) no
 
-  pub onward-packet : (size : ℕ) → onwardOf x size ≡ record { left = x .left - 1; from = beginOf (x .left - 1) (x .from + size) }
+  pub onward-packet : (size : ℕ) → onwardOf x size ≡ record { left = x .left - 1; from = x .from + size }
   unfolding onwardOf
-  onward-packet size = ap (λ b. cond b (record { left = 0; from = x .from - 1 }) (record { left = x .left - 1; from = beginOf (x .left - 1) (x .from + size) })) no
+  onward-packet size = ap (λ b. cond b (record { left = 0; from = x .from - 1 }) (record { left = x .left - 1; from = x .from + size })) no
 
   -- the bytes that are lent
   pub lent-packet : {s : List ℕ} {size : ℕ} (text : List ℕ) → Lies s x size → take (x .from + size - x .from) (drop (x .from) s) ≡ messageAt text s x size

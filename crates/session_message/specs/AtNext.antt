@@ -37,12 +37,9 @@ windowAfter window x place = cond (inWindow x) (splice window (startOf place) (z
 unfoldable pub messageAt : List ℕ → List ℕ → PacketRest → ℕ → List ℕ
 messageAt text s x size = cond (inWindow x) (take size text) (part s (x .from) size)
 
--- past a message: one less is due, and behind the last one in the packet none
-abbrev pub beginOf : ℕ → ℕ → ℕ
-beginOf left from = cond (eqb left 0) 0 from
-
+-- past a message: one less is due, in the packet or of those that wait
 unfoldable pub onwardOf : PacketRest → ℕ → PacketRest
-onwardOf x size = cond (inWindow x) (record { left = 0; from = x .from - 1 }) (record { left = x .left - 1; from = beginOf (x .left - 1) (x .from + size) })
+onwardOf x size = cond (inWindow x) (record { left = 0; from = x .from - 1 }) (record { left = x .left - 1; from = x .from + size })
 
 -- what is read lies in the bytes
 pub record Begins (s : List ℕ) (x : PacketRest) : Type 0 where

@@ -7,7 +7,7 @@ ghost use mathlib.Core.Path.{_≡_};
 ghost use Prim.Native.Nat.{_<_, _≤_};
 ghost use lib.ListN.{length};
 ghost use Rattle.window.specs.Window.{sizeAt};
-ghost use Rattle.session_message.specs.AtNext.{beginOf, dueSize, sizeIn, textAfter, windowAfter, onwardOf, messageAt, Begins, Goes, Lies};
+ghost use Rattle.session_message.specs.AtNext.{dueSize, sizeIn, textAfter, windowAfter, onwardOf, messageAt, Begins, Goes, Lies};
 
 // What is left to apply: how many messages straight from the packet at hand, and where the first of them
 // begins in the lent bytes; where none is left there, how many of those that wait are due.
@@ -65,13 +65,6 @@ pub fn free(window: &mut Window, rest: PacketRest, place: usize)
     }
 }
 
-// Where the next message begins; behind the last one in the packet none that waits is due.
-fn begin_of(left: usize, from: usize) -> usize
-    ensures { λ r. ⌜ r ≡ beginOf left from ⌝ }
-{
-    if left == 0 { 0 } else { from }
-}
-
 // Past a message of this size.
 pub fn onward(rest: PacketRest, size: usize) -> PacketRest
     requires { ⌜ Goes rest size ⌝ }
@@ -84,7 +77,7 @@ pub fn onward(rest: PacketRest, size: usize) -> PacketRest
         };
     }
     let left = rest.left - 1;
-    let from = begin_of(left, rest.from + size);
+    let from = rest.from + size;
     PacketRest { left, from }
 }
 

@@ -1,7 +1,7 @@
 -- The engine until a message touches an order: each turn of the loop is one step of the definition.
 -- Assumes nothing.
 mod Points
-use mathlib.Core.Path.{ap, _∙_, sym}
+use mathlib.Core.Path.{ap, _∙_, sym, subst}
 use mathlib.Core.List.{List}
 use Prim.Native.Nat.{_+_, _-_, _*_, _≤_, _<_}
 use native.Mathlib.Nat.{mod-lt}
@@ -11,7 +11,7 @@ use Rattle.wire.specs.Number.{Bytes}
 use Rattle.book.specs.declared.tables.Order.{Order}
 use Rattle.book_room.specs.Room.{Houses}
 use Rattle.window_taking.specs.declared.burst.Turn.{Turn}
-use Rattle.session_message.specs.AtNext.{dueOf}
+use Rattle.session_message.specs.declared.PacketRest.{PacketRest}
 use Rattle.window_taking.proofs.Passing.{bytes-of}
 use Rattle.session.specs.Engine.{Going, Task, Touched, betweenOf, turnsLeft}
 use Rattle.session.proofs.Engine.{Onward, came-over, came-waits, from-between}
@@ -26,7 +26,7 @@ Inv-loop room₀ window₀ packets single text₀ answers₀ next₀ turn₀ res
     Onward packets single room₀ window₀ answers₀ text₀ (betweenOf next₀ turn₀ rest₀) room window answers text (betweenOf next turn rest)
 
 abbrev μ-loop : tie.MeasureT-loop
-μ-loop room₀ window₀ packets single text₀ answers₀ next₀ turn₀ rest₀ room window text answers next turn rest = turnsLeft turn rest
+μ-loop room₀ window₀ packets single text₀ answers₀ next₀ turn₀ rest₀ room window text answers next turn rest = turnsLeft turn next rest
 
 packet-bytes : (c : tie.After-shared-slice-known Inv-loop μ-loop) → Bytes (to.entry-from-shared-slice-known c .args .packets .now)
 packet-bytes c = bytes-of (to.entry-from-shared-slice-known c .args .packets .now) (λ i. omega (arith, c .shared-slice-known .given i))
@@ -76,14 +76,14 @@ follow-requires c κs =
     let free = to.then1-from-follow-arg c .if1 .taken in
     (holds o told free, (more o told free (to.close-from-follow-arg c .close .ensures) (sym (to.done-from-follow-arg c .done .ensures) ∙ to.else2-from-follow-arg c .if2 .left), known o told free))
 
-less : (c : tie.After-follow Inv-loop μ-loop) → turnsLeft (c .follow .result) (record { left = c .follow .result .direct; from = c .follow .result .from }) < turnsLeft (to.loop-from-follow c .loop .turn) (to.loop-from-follow c .loop .rest)
+less : (c : tie.After-follow Inv-loop μ-loop) → turnsLeft (c .follow .result) (to.loop-from-follow c .loop .next) (record { left = c .follow .result .direct; from = c .follow .result .from }) < turnsLeft (to.loop-from-follow c .loop .turn) (to.loop-from-follow c .loop .next) (to.loop-from-follow c .loop .rest)
 less c =
     let o = one (to.loop-from-follow c) .now in
     let told = to.size-from-follow c .size .ensures in
     let free = to.then1-from-follow c .if1 .taken in
     let put = to.close-from-follow c .close .ensures in
     let other = sym (to.done-from-follow c .done .ensures) ∙ to.else2-from-follow c .if2 .left in
-    less-turn (to.loop-from-follow c .loop .turn) (c .follow .result) (to.loop-from-follow c .loop .rest) (record { left = c .follow .result .direct; from = c .follow .result .from }) (ap (λ (t : Turn). t .left) (c .follow .ensures .0))
+    less-turn (to.loop-from-follow c .loop .turn) (c .follow .result) (to.loop-from-follow c .loop .next) (to.loop-from-follow c .loop .rest) (record { left = c .follow .result .direct; from = c .follow .result .from }) (ap (λ (t : Turn). t .left) (c .follow .ensures .0))
     (follows-few o told free put other (packet-bytes (to.shared-slice-known-from-follow c)) (c .follow .ensures .0) (c .follow .ensures .1))
     (more o told free put other .left)
 
@@ -105,7 +105,7 @@ loop-again c =
 
 -- ---- a message waits
 
-at : (c : tie.After-fetch Inv-loop μ-loop) → Here (to.entry-from-fetch c .args .packets .now) (to.loop-from-fetch c .loop .rest) (to.size-from-fetch c .size .result) (c .fetch .last .0) (to.loop-from-fetch c .loop .next)
+at : (c : tie.After-fetch Inv-loop μ-loop) → Here (to.entry-from-fetch c .args .packets .now) (to.loop-from-fetch c .loop .rest) (to.size-from-fetch c .size .result) (c .fetch .last .0) (to.loop-from-fetch c .loop .turn) (to.loop-from-fetch c .loop .next)
 at c =
     let g = one (to.loop-from-fetch c) in
     here (g .now) (to.size-from-fetch c .size .ensures) (to.else1-from-fetch c .if1 .left) (to.loop-from-fetch c .loop .text) (g .wide) (c .fetch .ensures)
@@ -131,8 +131,10 @@ touched : (c : tie.After-apply Inv-loop μ-loop) {t : Task} {os : List Order} (g
     → Touched (c .apply .last .0) (t .next) (t .end) (tabled (is-at (to.loop-from-apply c) g .now)) (to.loop-from-apply c .loop .next) (to.message-from-apply c .message .result .now) (c .apply .result)
 touched c {t} g = c .apply .ensures (t .next) (t .end) (tabled (is-at (to.loop-from-apply c) g .now)) (housed (to.message-from-apply c) g)
 
-fewer : (c : tie.After-apply Inv-loop μ-loop) → turnsLeft (to.loop-from-apply c .loop .turn) (to.onward-from-apply c .onward .result) < turnsLeft (to.loop-from-apply c .loop .turn) (to.loop-from-apply c .loop .rest)
-fewer c = omega (arith, at (to.fetch-from-apply c) .fewer, ap dueOf (to.onward-from-apply c .onward .ensures))
+fewer : (c : tie.After-apply Inv-loop μ-loop) → turnsLeft (to.loop-from-apply c .loop .turn) (to.loop-from-apply c .loop .next + 1) (to.onward-from-apply c .onward .result) < turnsLeft (to.loop-from-apply c .loop .turn) (to.loop-from-apply c .loop .next) (to.loop-from-apply c .loop .rest)
+fewer c =
+    subst (λ (z : PacketRest). turnsLeft (to.loop-from-apply c .loop .turn) (to.loop-from-apply c .loop .next + 1) z < turnsLeft (to.loop-from-apply c .loop .turn) (to.loop-from-apply c .loop .next) (to.loop-from-apply c .loop .rest))
+    (sym (to.onward-from-apply c .onward .ensures)) (at (to.fetch-from-apply c) .fewer)
 
 same-size-2 : tie.Need-same-length-2 Inv-loop μ-loop
 same-size-2 c = one (to.loop-from-at-hand c) .long ∙ sym (to.entry-from-at-hand c .pre .2 .long)

@@ -8,14 +8,8 @@ entry-from-struct-known2 c = c .before .before .before
 abbrev pub entry-from-struct-known4 : tie.After-struct-known4 → tie.Start
 entry-from-struct-known4 c = c .before .before .before .before
 
-abbrev pub entry-from-begin-of : tie.After-begin-of → tie.Start
-entry-from-begin-of c = entry-from-struct-known4 (c .before)
-
 abbrev pub then1-from-struct-known2 : tie.After-struct-known2 → tie.Then1
 then1-from-struct-known2 c = c .before
 
 abbrev pub else1-from-struct-known4 : tie.After-struct-known4 → tie.Else1
 else1-from-struct-known4 c = c .before .before
-
-abbrev pub else1-from-begin-of : tie.After-begin-of → tie.Else1
-else1-from-begin-of c = else1-from-struct-known4 (c .before)
