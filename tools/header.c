@@ -220,7 +220,7 @@ static void keeping(void)
     EXPECT(jangsebit_keep(held.room, held.window, framed + 2, ADD, told) == JANGSEBIT_PAST_WINDOW && told[0] == 99);
     add(framed, 265, "000000000020ZZ", 'B', 200, 1250000);
     jangsebit_pass(held.room, held.window, framed + 2, ADD, told);
-    EXPECT(told[0] == JANGSEBIT_CARRIES && unchanged());
+    EXPECT(told[0] == JANGSEBIT_APPLIES && unchanged());
 
     /* 11 and 12 follow, a copy of 12 differs, 14 has to wait for 13 */
     add(packets, 11, "000000000020ZZ", 'B', 200, 1250000);
