@@ -4,8 +4,9 @@ use mathlib.Core.Path.{_≡_, refl, ap, _∙_, sym, subst}
 use mathlib.Core.Logic.{_≢_}
 use mathlib.Core.Bool.{Bool, true, false, cond, not, _&&_}
 use mathlib.Core.List.{List, [], _∷_}
-use Prim.Native.Nat.{ℕ, _-_}
-use borrow.Author.Tests.{ne-eqb}
+use Prim.Native.Nat.{ℕ, _-_, _≤_}
+use native.Mathlib.Omega.{arith}
+use borrow.Author.Tests.{leb-true, ne-eqb}
 use lib.Dec.{eqb, leb, ltb}
 use Rattle.wire.specs.Choice.{firstOf}
 use Rattle.wire.specs.Number.{part}
@@ -25,12 +26,14 @@ use Rattle.message.specs.declared.layouts.TradeFields.{TradeFields}
 use Rattle.message.specs.declared.layouts.TradingSessionFields.{TradingSessionFields}
 use Rattle.message.specs.declared.layouts.UpdateFields.{UpdateFields}
 use Rattle.fields.proofs.Ids.{value-good}
+use Rattle.fields.proofs.Tests.{and-left, and-right}
 use Rattle.message.proofs.Cases.{Unopened, unopened}
 use Rattle.book.specs.Lookup.{isAt, placeFound}
-use Rattle.book.specs.Applying.{Seen, messageIn, effectOf, executionOf}
+use Rattle.book.specs.Applying.{Seen, messageIn, effectOf, executionOf, isListed, unlistedUnder}
 use Rattle.book.specs.declared.lookup.Found.{Found}
 use Rattle.book.specs.declared.deciding.Effect.{Effect}
-use Rattle.book.specs.declared.deciding.Effect.the-variants.{Put, Replace, Remove, Renew, Enter, Record, Unchanged, Fault}
+use Rattle.book.specs.declared.tables.OpeningRule.{OpeningRule}
+use Rattle.book.specs.declared.deciding.Effect.the-variants.{Put, Replace, Remove, Renew, Enter, Record, Unchanged, Fault, CountApart}
 use Rattle.book.proofs.Types.{no}
 
 module _ (s : List ℕ) (seen : Seen) where
@@ -117,7 +120,7 @@ module _ (s : List ℕ) (seen : Seen) where
   pub typed : (k : ℕ) {t : ℕ} {e : Effect} → t ≡ typeIn s → t ≡ k → e ≡ effectOf seen (fieldsOf k s) → e ≡ effectOf seen (messageIn s)
   typed k is e h = h ∙ ap (λ (j : ℕ). effectOf seen (fieldsOf j s)) (sym e ∙ is)
 
-  -- fault 1: a type that is not in the table, one that names no order and is none of the others
+  -- a type that is not in the table, one that names no order and is none of the others
   abbrev Others : ℕ → Type 0
   Others t = (((((((Unit {0} × (t ≡ 20 → ⊥)) × (t ≡ 26 → ⊥)) × (t ≡ 27 → ⊥)) × (t ≡ 9 → ⊥)) × (t ≡ 11 → ⊥)) × (t ≡ 12 → ⊥)) × (t ≡ 28 → ⊥))
 
@@ -128,11 +131,35 @@ module _ (s : List ℕ) (seen : Seen) where
       aside : (k : ℕ) → (leb 21 k && leb k 25) ≡ true → t ≢ k
       aside k within e = no (sym out ∙ ap (λ (j : ℕ). leb 21 j && leb j 25) e ∙ within)
 
-  unlisted-at : (t : ℕ) → Unopened t → t ≢ 28 → Fault 1 ≡ effectOf seen (fieldsOf t s)
-  unfolding effectOf payloadOf
-  unlisted-at t h n =
-      subst (λ (m : Message). Fault 1 ≡ effectOf seen m) (unopened t s h)
-      (simp (ne-eqb t 9 (h .0 .0 .0 .0 .0 .0 .0 .0 .0 .0 .1), ne-eqb t 11 (h .0 .0 .0 .0 .0 .0 .0 .0 .0 .1), ne-eqb t 12 (h .0 .0 .0 .0 .0 .0 .0 .0 .1), ne-eqb t 20 (h .0 .0 .0 .0 .0 .0 .0 .1), ne-eqb t 21 (h .0 .0 .0 .0 .0 .0 .1), ne-eqb t 22 (h .0 .0 .0 .0 .0 .1), ne-eqb t 23 (h .0 .0 .0 .0 .1), ne-eqb t 24 (h .0 .0 .0 .1), ne-eqb t 25 (h .0 .0 .1), ne-eqb t 26 (h .0 .1), ne-eqb t 27 (h .1), ne-eqb t 28 n))
+  -- no such type names an order
+  unnamed : (low t : ℕ) → 22 ≤ low → Unopened t → (leb low t && leb t 25) ≡ false
+  unnamed low t from h = by (leb low t && leb t 25) refl
+    where
+      by : (b : Bool) → (leb low t && leb t 25) ≡ b → b ≡ false
+      by false e = refl
+      by true e =
+          let lo = leb-true low t (and-left (leb low t) (leb t 25) e) in
+          let hi = leb-true t 25 (and-right (leb low t) (leb t 25) e) in
+          absurd (omega (arith, lo, hi, from, h .0 .0 .0 .0 .0 .1, h .0 .0 .0 .0 .1, h .0 .0 .0 .1, h .0 .0 .1))
 
-  pub unlisted : {t : ℕ} → t ≡ typeIn s → (leb 21 (typeIn s) && leb (typeIn s) 25) ≡ false → Others t → Fault 1 ≡ effectOf seen (messageIn s)
-  unlisted {t} is out h = typed t is refl (unlisted-at t (apart t (ap (λ (j : ℕ). leb 21 j && leb j 25) is ∙ out) h) (h .1))
+  unlisted-at : (t : ℕ) → Unopened t → t ≢ 28 → unlistedUnder (seen .rule) ≡ effectOf seen (fieldsOf t s)
+  unfolding effectOf payloadOf brokenOf
+  unlisted-at t h n =
+      subst (λ (m : Message). unlistedUnder (seen .rule) ≡ effectOf seen m) (unopened t s h)
+      (simp (ne-eqb t 9 (h .0 .0 .0 .0 .0 .0 .0 .0 .0 .0 .1), ne-eqb t 11 (h .0 .0 .0 .0 .0 .0 .0 .0 .0 .1), ne-eqb t 12 (h .0 .0 .0 .0 .0 .0 .0 .0 .1), ne-eqb t 20 (h .0 .0 .0 .0 .0 .0 .0 .1), ne-eqb t 21 (h .0 .0 .0 .0 .0 .0 .1), ne-eqb t 22 (h .0 .0 .0 .0 .0 .1), ne-eqb t 23 (h .0 .0 .0 .0 .1), ne-eqb t 24 (h .0 .0 .0 .1), ne-eqb t 25 (h .0 .0 .1), ne-eqb t 26 (h .0 .1), ne-eqb t 27 (h .1), ne-eqb t 28 n, unnamed 22 t (omega arith) h, unnamed 24 t (omega arith) h))
+
+  -- a type that is not in the table is none of those in it
+  pub unlisted-by : (t : ℕ) → t ≡ typeIn s → isListed t ≡ false → unlistedUnder (seen .rule) ≡ effectOf seen (messageIn s)
+  unfolding payloadOf
+  unlisted-by t is out =
+      typed t is refl
+      (unlisted-at t
+      (((((((((((tt, aside 9 refl), aside 11 refl), aside 12 refl), aside 20 refl), aside 21 refl), aside 22 refl), aside 23 refl), aside 24 refl), aside 25 refl), aside 26 refl), aside 27 refl)
+      (aside 28 refl))
+    where
+      aside : (k : ℕ) → isListed k ≡ true → t ≢ k
+      aside k listed e = no (sym out ∙ ap isListed e ∙ listed)
+
+  pub unlisted : {t : ℕ} {rule : OpeningRule} {r : Effect} → t ≡ typeIn s → (leb 21 (typeIn s) && leb (typeIn s) 25) ≡ false → Others t → seen .rule ≡ rule → r ≡ unlistedUnder rule → r ≡ effectOf seen (messageIn s)
+  unlisted {t} is out h under does =
+      does ∙ ap unlistedUnder (sym under) ∙ typed t is refl (unlisted-at t (apart t (ap (λ (j : ℕ). leb 21 j && leb j 25) is ∙ out) h) (h .1))

@@ -10,7 +10,7 @@ use Rattle.book_index.specs.Changes.{without}
 use Rattle.book_index.proofs.Laws.{map-without}
 use Rattle.book_index.proofs.Moves.{length-without}
 use Rattle.book.specs.Lookup.{frontOf, backOf}
-use Rattle.book.specs.Tables.{Book, withOrders, withInsides, withCode, withFaults, blank, gone, noOrder, noInside, places, idsOf, frontsOf, backsOf, holdingOrders, holdingInsides, holdingMarks, rep, view}
+use Rattle.book.specs.Tables.{Book, Unlisted, withOrders, withInsides, withCode, withFaults, withUnlisted, blank, gone, noOrder, noInside, places, idsOf, frontsOf, backsOf, holdingOrders, holdingInsides, holdingMarks, holdingUnlisted, rep, view}
 use Rattle.book.specs.Applying.{repriced}
 use Rattle.book.specs.declared.tables.Order.{Order}
 use Rattle.book.specs.declared.tables.Inside.{Inside}
@@ -157,3 +157,7 @@ module _ (b : Book) (same : b ≡ rep (view b)) where
       → _≡_ {A = Book} (holdingMarks b code faults)
       (rep (withFaults (withCode (view b) code) faults))
   marked-rep code faults = ap (λ (x : Book). holdingMarks x code faults) same
+
+  -- nothing but what is counted apart
+  pub apart-rep : (unlisted : Unlisted) → _≡_ {A = Book} (holdingUnlisted b unlisted) (rep (withUnlisted (view b) unlisted))
+  apart-rep unlisted = ap (λ (x : Book). holdingUnlisted x unlisted) same

@@ -26,13 +26,14 @@ use Rattle.message.specs.declared.kinds.Message.{Message}
 use Rattle.wire.specs.Number.{part}
 use Rattle.book.specs.Lookup.{frontOf, backOf, sameSymbol}
 use Rattle.book.specs.Tables.{Book, Tables, fresh, withOrders, withInsides, blank, gone, noOrder, noInside, idsOf, frontsOf, backsOf, rep, view}
-use Rattle.book.specs.Applying.{Seen, messageIn, topicOf, seenOf, effectIn, carried, applyOf, orderOf, insideOf, repriced, applyUnder, effectOf}
+use Rattle.book.specs.Applying.{Seen, messageIn, topicOf, seenOf, effectIn, carried, applyOf, orderOf, insideOf, repriced, effectOf}
 use Rattle.book.specs.Named.{hasId, hasSymbol}
 use Rattle.book.specs.Rule.{GoodOrder, GoodInside, Distinct, Apart, Sound, Kept, Ready}
 use Rattle.book.specs.declared.tables.Order.{Order}
 use Rattle.book.specs.declared.tables.Inside.{Inside}
 use Rattle.book.specs.declared.deciding.Effect.{Effect}
-use Rattle.book.specs.declared.deciding.Effect.the-variants.{Put, Replace, Remove, Renew, Enter, Record, Unchanged, Fault}
+use Rattle.book.specs.declared.tables.OpeningRule.{OpeningRule}
+use Rattle.book.specs.declared.deciding.Effect.the-variants.{Put, Replace, Remove, Renew, Enter, Record, Unchanged, Fault, CountApart}
 use Rattle.book.proofs.Holding.{take-places, length-places, map-put, length-put}
 use Rattle.book.proofs.Keyed.{Nowhere}
 use Rattle.book.proofs.Told.{Good, Change, Updated, Lowered, AtOrder, Placed, Held, Entered, Coded, told}
@@ -318,9 +319,11 @@ module _ (t : Tables) (sound : Sound t) (s : List ℕ) (number : ℕ) where
   sound-carried Unchanged g c = sound
   sound-carried (Fault reason) g c =
       record { few = sound .few; distinct = sound .distinct; orders = sound .orders; scarce = sound .scarce; insides = sound .insides; apart = sound .apart; coded = sound .coded }
+  sound-carried CountApart g c =
+      record { few = sound .few; distinct = sound .distinct; orders = sound .orders; scarce = sound .scarce; insides = sound .insides; apart = sound .apart; coded = sound .coded }
 
   pub sound-apply : Sound (applyOf t number s)
-  unfolding applyUnder effectOf
+  unfolding applyOf
   sound-apply =
       let c = told seen m in
       sound-carried (effectIn t s) (c .0) (c .1)
@@ -347,8 +350,8 @@ kept-rep t sound =
       backs = length-places 64 0 (backsOf (t .insides)) backs;
     }
 
-pub fresh-sound : Sound fresh
-fresh-sound =
+pub fresh-sound : (rule : OpeningRule) → Sound (fresh rule)
+fresh-sound rule =
     record {
       few = omega arith;
       distinct = λ i j less h. absurd (omega arith);
@@ -360,8 +363,8 @@ fresh-sound =
     }
 
 -- a fresh book has the rule, and a message leaves it
-pub fresh-kept : Kept (rep fresh)
-fresh-kept = kept-rep fresh fresh-sound
+pub fresh-kept : (rule : OpeningRule) → Kept (rep (fresh rule))
+fresh-kept rule = kept-rep (fresh rule) (fresh-sound rule)
 
 pub apply-kept : {b : Book} {number : ℕ} {s : List ℕ} → Ready b number s → Kept (rep (applyOf (view b) number s))
 apply-kept {b} {number} {s} ready = kept-rep (applyOf (view b) number s) (sound-apply (view b) (ready .kept .sound) s number)

@@ -16,13 +16,13 @@ use Rattle.message.specs.Row.{typeOf, rowOf}
 use Rattle.message.specs.declared.kinds.Message.{Message}
 use Rattle.book.specs.Lookup.{isAt, sameSymbol}
 use Rattle.book.specs.Tables.{Tables, blank, gone}
-use Rattle.book.specs.Applying.{Seen, messageIn, topicOf, thereOf, orderSeen, seenOf, names, effectIn, effectOf, executionOf, changeOf, carried, applyOf, applyUnder, orderOf, insideOf, repriced}
+use Rattle.book.specs.Applying.{Seen, messageIn, topicOf, thereOf, orderSeen, seenOf, names, isListed, effectIn, effectOf, executionOf, changeOf, carried, applyOf, orderOf, insideOf, repriced}
 use Rattle.book.specs.Named.{firstThat, isThere, hasId, orderUnder, hasSymbol, insideUnder, isFault, orderUpdated, orderExecuted, orderAfter, insideAfter}
 use Rattle.book.specs.Rule.{Sound}
 use Rattle.book.specs.declared.tables.Order.{Order}
 use Rattle.book.specs.declared.tables.Inside.{Inside}
 use Rattle.book.specs.declared.deciding.Effect.{Effect}
-use Rattle.book.specs.declared.deciding.Effect.the-variants.{Put, Replace, Remove, Renew, Enter, Record, Unchanged, Fault}
+use Rattle.book.specs.declared.deciding.Effect.the-variants.{Put, Replace, Remove, Renew, Enter, Record, Unchanged, Fault, CountApart}
 use Rattle.book.proofs.Keeping.{absent-inside, absent-order}
 use Rattle.book.proofs.Keyed.{leave-other, leave-same, nowhere, put-other, put-same, set-other, set-same, there}
 use Rattle.book.proofs.Symbols.{alike, alike-to, bytes-same, other-bytes}
@@ -42,6 +42,7 @@ orderBehind m Enter old = old
 orderBehind m (Record code) old = old
 orderBehind m Unchanged old = old
 orderBehind m (Fault reason) old = old
+orderBehind m CountApart old = old
 
 abbrev pub insideBehind : Message → Effect → Option Inside → Option Inside
 insideBehind m Put old = old
@@ -52,6 +53,7 @@ insideBehind m Enter old = some (insideOf m)
 insideBehind m (Record code) old = old
 insideBehind m Unchanged old = old
 insideBehind m (Fault reason) old = old
+insideBehind m CountApart old = old
 
 -- what an execution makes of an order that is there
 execution-is : (n : ℕ) (o : Order) (b : Bool) → eqb (o .shares - n) 0 ≡ b → {old : Option Order} → old ≡ some o → orderExecuted n old ≡ cond b none (some (repriced o (o .shares - n) (o .price)))
@@ -89,6 +91,7 @@ module _ (t : Tables) (sound : Sound t) (number : ℕ) (s : List ℕ) where
   order-same (Record code) g c = refl
   order-same Unchanged g c = refl
   order-same (Fault reason) g c = refl
+  order-same CountApart g c = refl
 
   -- and on the order of any other
   pub order-other : (e : Effect) → Good m e → Change seen m e → (k : ℕ) → k ≢ key → orderUnder (carried t number m e) k ≡ orderUnder t k
@@ -105,6 +108,7 @@ module _ (t : Tables) (sound : Sound t) (number : ℕ) (s : List ℕ) where
   order-other (Record code) g c k n = refl
   order-other Unchanged g c k n = refl
   order-other (Fault reason) g c k n = refl
+  order-other CountApart g c k n = refl
 
   -- the inside that a Top of Book tells, and the one that it takes the place of, have the message's symbol
   told-alike : typeOf m ≡ 26 → (symbol : List ℕ) → hasSymbol symbol (insideOf m) ≡ sameSymbol topic symbol
@@ -126,6 +130,7 @@ module _ (t : Tables) (sound : Sound t) (number : ℕ) (s : List ℕ) where
   inside-same (Record code) g c symbol same = refl
   inside-same Unchanged g c symbol same = refl
   inside-same (Fault reason) g c symbol same = refl
+  inside-same CountApart g c symbol same = refl
 
   -- and on the inside of any other
   pub inside-other : (e : Effect) → Change seen m e → (symbol : List ℕ) → sameSymbol topic symbol ≡ false → insideUnder (carried t number m e) symbol ≡ insideUnder t symbol
@@ -139,6 +144,7 @@ module _ (t : Tables) (sound : Sound t) (number : ℕ) (s : List ℕ) where
   inside-other (Record code) c symbol other = refl
   inside-other Unchanged c symbol other = refl
   inside-other (Fault reason) c symbol other = refl
+  inside-other CountApart c symbol other = refl
 
   -- ---- a message, by name
 
@@ -168,7 +174,7 @@ module _ (t : Tables) (sound : Sound t) (number : ℕ) (s : List ℕ) where
       λ f4. pick After (eqb type 25) (λ e c. rw (eqb-true type 25 e) (execution-after c))
       λ f5. pick After (eqb type 26)
       (λ e. pick After (isAt (seen .inside)) (λ z c. rw (eqb-true type 26 e)) (λ z c. rw (eqb-true type 26 e)))
-      (λ f6 c. simp (f1, f2, f3, f4, f5))
+      (λ f6. pick After (isListed type) (λ z c. simp (f1, f2, f3, f4, f5)) (λ z c. simp (f1, f2, f3, f4, f5)))
 
   abbrev InsideAfter : Option Inside → Effect → Type 0
   InsideAfter old e = insideBehind m e old ≡ insideAfter m old
@@ -186,19 +192,19 @@ module _ (t : Tables) (sound : Sound t) (number : ℕ) (s : List ℕ) where
       λ f4. pick After (eqb type 25) (λ e. execution (rw (eqb-true type 25 e)))
       λ f5. pick After (eqb type 26)
       (λ e. pick After (isAt (seen .inside)) (λ z. rw (eqb-true type 26 e)) (λ z. rw (eqb-true type 26 e)))
-      (λ f6. simp f6)
+      (λ f6. pick After (isListed type) (λ z. simp f6) (λ z. simp f6))
 
   module _ (ok : isFault (effectIn t s) ≡ false) where
     -- asking for the id that the message names gives what its type makes of the order
     pub order-named : orderUnder (applyOf t number s) key ≡ orderAfter m (orderUnder t key)
-    unfolding applyUnder effectOf
+    unfolding applyOf
     order-named =
         let is : effectIn t s ≡ changeOf seen m = unfaulted seen m ok in
         let c = tells seen m is in
         ap (λ (e : Effect). orderUnder (carried t number m e) key) is ∙ order-same (changeOf seen m) (c .0) (c .1) ∙ order-changed (c .1)
 
     pub inside-named : (symbol : List ℕ) → sameSymbol topic symbol ≡ true → insideUnder (applyOf t number s) symbol ≡ insideAfter m (insideUnder t symbol)
-    unfolding applyUnder effectOf
+    unfolding applyOf
     inside-named symbol same =
         let is : effectIn t s ≡ changeOf seen m = unfaulted seen m ok in
         let c = tells seen m is in
@@ -206,11 +212,11 @@ module _ (t : Tables) (sound : Sound t) (number : ℕ) (s : List ℕ) where
 
   -- and asking for any other gives what it gave, whatever the message
   pub order-others : (k : ℕ) → k ≢ key → orderUnder (applyOf t number s) k ≡ orderUnder t k
-  unfolding applyUnder effectOf
+  unfolding applyOf
   order-others = order-other (effectIn t s) (told seen m .0) (told seen m .1)
 
   pub inside-others : (symbol : List ℕ) → sameSymbol topic symbol ≡ false → insideUnder (applyOf t number s) symbol ≡ insideUnder t symbol
-  unfolding applyUnder effectOf
+  unfolding applyOf
   inside-others = inside-other (effectIn t s) (told seen m .1)
 
   -- a symbol of 14 bytes that differs in one is another
@@ -228,13 +234,14 @@ module _ (t : Tables) (sound : Sound t) (number : ℕ) (s : List ℕ) where
   fault-leaves (Record code) h = no h
   fault-leaves Unchanged h = no h
   fault-leaves (Fault reason) h = (refl, refl)
+  fault-leaves CountApart h = no h
 
   pub fault-orders : isFault (effectIn t s) ≡ true → (k : ℕ) → orderUnder (applyOf t number s) k ≡ orderUnder t k
-  unfolding applyUnder effectOf orderUnder
+  unfolding applyOf orderUnder
   fault-orders h k = ap (firstThat (hasId k)) (fault-leaves (effectIn t s) h .0)
 
   pub fault-insides : isFault (effectIn t s) ≡ true → (symbol : List ℕ) → insideUnder (applyOf t number s) symbol ≡ insideUnder t symbol
-  unfolding applyUnder effectOf insideUnder
+  unfolding applyOf insideUnder
   fault-insides h symbol = ap (firstThat (hasSymbol symbol)) (fault-leaves (effectIn t s) h .1)
 
   -- ---- the sentences
@@ -243,8 +250,8 @@ module _ (t : Tables) (sound : Sound t) (number : ℕ) (s : List ℕ) where
     -- 22 to 25 name a live order
     pub names-live : names type ≡ true → isThere (orderUnder t key) ≡ true
     names-live e =
-        by-faults seen m (λ (x : Effect). isFault x ≡ false → isThere (orderUnder t key) ≡ true) (λ reason h. no (sym h))
-        (λ g three four five six eight h. ap isThere (order-there (record { there = not-false _ (right (names type) _ e five); place = refl }))) ok
+        by-faults seen m (λ (x : Effect). isFault x ≡ false → isThere (orderUnder t key) ≡ true) (λ reason one h. no (sym h))
+        (λ one g three four five six eight h. ap isThere (order-there (record { there = not-false _ (right (names type) _ e five); place = refl }))) ok
 
     -- "Add makes an order", of an id that named none
     pub add-new : type ≡ 21 → orderUnder t key ≡ none

@@ -12,9 +12,9 @@ use Rattle.fields.specs.Id.{numberOf}
 use Rattle.message.specs.Layouts.{layoutOf, typeIn}
 use Rattle.message.specs.Row.{fieldsOf, messageOf, typeOf}
 use Rattle.book.specs.Lookup.{isAt, placeFound, frontOf, backOf, keyAt, symbolAt}
-use Rattle.book.specs.Tables.{Book, Tables, blank, noOrder, places, idsOf, frontsOf, backsOf, holdingOrders, holdingInsides, holdingMarks, rep, view}
+use Rattle.book.specs.Tables.{Book, Tables, blank, noOrder, places, idsOf, frontsOf, backsOf, holdingOrders, holdingInsides, holdingMarks, holdingUnlisted, rep, view}
 use Rattle.message.specs.Whole.{Whole}
-use Rattle.book.specs.Applying.{Seen, Naming, messageIn, topicOf, thereOf, seenOf, effectIn, carried, applyOf, orderOf, insideOf, faulted, applyUnder, effectOf}
+use Rattle.book.specs.Applying.{Seen, Naming, messageIn, topicOf, thereOf, seenOf, effectIn, carried, applyOf, orderOf, insideOf, faulted, countedApart, effectOf}
 use Rattle.book.specs.Rule.{Kept}
 use Rattle.message.specs.declared.kinds.Message.{Message}
 use Rattle.book.specs.declared.lookup.Found.{Found}
@@ -23,8 +23,8 @@ use Rattle.book.specs.declared.tables.Order.{Order}
 use Rattle.book.specs.declared.tables.Inside.{Inside}
 use Rattle.book.specs.declared.tables.Faults.{Faults}
 use Rattle.book.specs.declared.deciding.Effect.{Effect}
-use Rattle.book.specs.declared.deciding.Effect.the-variants.{Put, Replace, Remove, Renew, Enter, Record, Unchanged, Fault}
-use Rattle.book.proofs.Carrying.{live-is, held-is, orders-are, keys-are, fronts-are, backs-are, restored, restored-is, put-rep, enter-rep, replace-rep, remove-rep, renew-rep, marked-rep}
+use Rattle.book.specs.declared.deciding.Effect.the-variants.{Put, Replace, Remove, Renew, Enter, Record, Unchanged, Fault, CountApart}
+use Rattle.book.proofs.Carrying.{live-is, held-is, orders-are, keys-are, fronts-are, backs-are, restored, restored-is, put-rep, enter-rep, replace-rep, remove-rep, renew-rep, marked-rep, apart-rep}
 use Rattle.book.proofs.Holding.{take-places}
 use Rattle.book.proofs.Told.{Change, tells, AtOrder}
 use Rattle.book.proofs.Types.{add-id, add-naming, top-room, type-kept, told-topic}
@@ -89,11 +89,11 @@ module _ (b : Book) (s : List ℕ) (kept : Kept b) {key : ℕ} {topic : List ℕ
       ∙ past f none (t .orders) at
       ∙ ap (λ (k : ℕ). f (getD (t .orders) k blank)) (place-is ∙ ap placeFound order-seen)
 
-  pub seen-is : _≡_ {A = Seen} (record { live = b .live; order = order; shares = getD (b .orders) at blank .shares; price = getD (b .orders) at blank .price; held = b .held; inside = inside })
+  pub seen-is : _≡_ {A = Seen} (record { live = b .live; order = order; shares = getD (b .orders) at blank .shares; price = getD (b .orders) at blank .price; held = b .held; inside = inside; rule = b .unlisted .rule })
       (seenOf t (messageIn s))
   unfolding seenOf
   seen-is i =
-      record { live = live-is b (kept .same) i; order = order-seen i; shares = there-seen (λ o. o .shares) refl i; price = there-seen (λ o. o .price) refl i; held = held-is b (kept .same) i; inside = inside-seen i }
+      record { live = live-is b (kept .same) i; order = order-seen i; shares = there-seen (λ o. o .shares) refl i; price = there-seen (λ o. o .price) refl i; held = held-is b (kept .same) i; inside = inside-seen i; rule = b .unlisted .rule }
 
 -- the look-up's place is one of the book's
 pub found-within : (keys : List ℕ) (live key : ℕ) {order : Found} {at : ℕ} → live ≤ 256 → order ≡ keyAt key (take live keys) → at ≡ placeFound order → at < 256
@@ -113,7 +113,7 @@ module _ {b : Book} {s : List ℕ} {key : ℕ} {topic : List ℕ} {e : Effect} (
   tell h = tells (seenOf (view b) m) m (sym (d .effect) ∙ h) .1
 
   done : (number : ℕ) {e' : Effect} → e ≡ e' → rep (carried (view b) number m e') ≡ rep (applyOf (view b) number s)
-  unfolding applyUnder effectOf
+  unfolding applyOf
   done number h = ap (λ (x : Effect). rep (carried (view b) number m x)) (sym h ∙ d .effect)
 
   of-type : {k : ℕ} → typeOf m ≡ k → typeIn s ≡ k
@@ -215,7 +215,7 @@ module _ {b : Book} {s : List ℕ} {key : ℕ} {topic : List ℕ} {e : Effect} (
       ∙ enter-rep b (d .kept .same) (insideOf m) (enter-few h)
       ∙ done number h
 
-  -- Record, Unchanged and Fault
+  -- Record, Unchanged, Fault and CountApart
   pub record-done : (number : ℕ) {code : ℕ} → e ≡ Record code
       → _≡_ {A = Book} (holdingMarks b code (b .faults))
       (rep (applyOf (view b) number s))
@@ -228,3 +228,6 @@ module _ {b : Book} {s : List ℕ} {key : ℕ} {topic : List ℕ} {e : Effect} (
       → _≡_ {A = Book} (holdingMarks b (b .code) more)
       (rep (applyOf (view b) number s))
   fault-done number h is = rw is (marked-rep b (d .kept .same) (b .code) _ ∙ done number h)
+
+  pub apart-done : (number : ℕ) → e ≡ CountApart → _≡_ {A = Book} (holdingUnlisted b (countedApart (b .unlisted))) (rep (applyOf (view b) number s))
+  apart-done number h = apart-rep b (d .kept .same) (countedApart (b .unlisted)) ∙ done number h

@@ -8,15 +8,15 @@ use native.Mathlib.Omega.{arith}
 use borrow.Author.Tests.{eqb-true, eqb-false, leb-false, not-false}
 use lib.Dec.{eqb, leb, ltb}
 use Rattle.wire.specs.Layout.{numberIn}
+use Rattle.fields.proofs.Tests.{and-right}
 use Rattle.message.specs.Row.{typeOf, rowOf}
 use Rattle.message.specs.Rules.{goodMessage}
-use Rattle.message.specs.Table.{payloadOf}
 use Rattle.message.specs.declared.kinds.Message.{Message}
 use Rattle.book.specs.Lookup.{isAt, placeFound}
-use Rattle.book.specs.Applying.{Seen, names, executes, changeOf, effectOf}
+use Rattle.book.specs.Applying.{Seen, names, executes, isListed, isStrict, changeOf, effectOf}
 use Rattle.book.specs.Named.{isFault}
 use Rattle.book.specs.declared.deciding.Effect.{Effect}
-use Rattle.book.specs.declared.deciding.Effect.the-variants.{Put, Replace, Remove, Renew, Enter, Record, Unchanged, Fault}
+use Rattle.book.specs.declared.deciding.Effect.the-variants.{Put, Replace, Remove, Renew, Enter, Record, Unchanged, Fault, CountApart}
 use Rattle.book.proofs.Types.{no, pick}
 
 -- the place of the order that the message names
@@ -63,7 +63,8 @@ Change seen m (Renew place) = Held seen m place
 Change seen m Enter = Entered seen m
 Change seen m (Record code) = Coded m code
 Change seen m Unchanged = Unit {0}
-Change seen m (Fault reason) = Unit {0}
+Change seen m (Fault reason) = reason ≡ 1 → isStrict (seen .rule) ≡ true
+Change seen m CountApart = (isListed (typeOf m) ≡ false) × (isStrict (seen .rule) ≡ false)
 
 -- a change that is no fault comes of a message that breaks no rule
 abbrev pub Good : Message → Effect → Type 0
@@ -75,6 +76,7 @@ Good m Enter = goodMessage m ≡ true
 Good m (Record code) = goodMessage m ≡ true
 Good m Unchanged = goodMessage m ≡ true
 Good m (Fault reason) = Unit {0}
+Good m CountApart = goodMessage m ≡ true
 
 pub right : (a b : Bool) → a ≡ true → (a && b) ≡ false → b ≡ false
 right true b e h = h
@@ -87,7 +89,8 @@ module _ (seen : Seen) (m : Message) where
   abbrev Told : Effect → Type 0
   Told e = Good m e × Change seen m e
 
-  module _ (good : goodMessage m ≡ true)
+  module _ (one : (not (isListed type) && isStrict (seen .rule)) ≡ false)
+      (good : goodMessage m ≡ true)
       (three : (eqb type 21 && isAt (seen .order)) ≡ false)
       (four : (eqb type 21 && leb 256 (seen .live)) ≡ false)
       (five : (names type && not (isAt (seen .order))) ≡ false)
@@ -118,11 +121,13 @@ module _ (seen : Seen) (m : Message) where
         λ f. pick Told (eqb type 23) (λ e. (good, at-order (ap names (eqb-true type 23 e))))
         λ f. pick Told (eqb type 24) (λ e. execution 24 (eqb-true type 24 e) refl)
         λ f. pick Told (eqb type 25) (λ e. execution 25 (eqb-true type 25 e) refl)
-        λ f. pick Told (eqb type 26) (λ e. inside (eqb-true type 26 e)) (λ e. (good, tt))
+        λ f. pick Told (eqb type 26) (λ e. inside (eqb-true type 26 e))
+        λ f. pick Told (isListed type) (λ e. (good, tt)) (λ e. (good, (e, right (not (isListed type)) (isStrict (seen .rule)) (ap not e) one)))
 
-  -- by the faults, one after the other: what holds of a fault, and of the change where no fault holds
-  pub by-faults : (P : Effect → Type 0) → ((reason : ℕ) → P (Fault reason))
-      → (goodMessage m ≡ true
+  -- by the faults, one after the other: what holds of a fault, the first under the strict rule only, and of the change where no fault holds
+  pub by-faults : (P : Effect → Type 0) → ((reason : ℕ) → (reason ≡ 1 → isStrict (seen .rule) ≡ true) → P (Fault reason))
+      → ((not (isListed type) && isStrict (seen .rule)) ≡ false
+      → goodMessage m ≡ true
       → (eqb type 21 && isAt (seen .order)) ≡ false
       → (eqb type 21 && leb 256 (seen .live)) ≡ false
       → (names type && not (isAt (seen .order))) ≡ false
@@ -132,22 +137,22 @@ module _ (seen : Seen) (m : Message) where
       → P (effectOf seen m)
   unfolding effectOf
   by-faults P fault rest =
-      pick P (eqb (payloadOf type) 255) (λ e. fault 1)
-      λ f1. pick P (not (goodMessage m)) (λ e. fault 2)
-      λ f2. pick P (eqb type 21 && isAt (seen .order)) (λ e. fault 3)
-      λ f3. pick P (eqb type 21 && leb 256 (seen .live)) (λ e. fault 4)
-      λ f4. pick P (names type && not (isAt (seen .order))) (λ e. fault 5)
-      λ f5. pick P (executes type && ltb (seen .shares) (numberIn (rowOf m) 2)) (λ e. fault 6)
-      λ f6. pick P (executes type && not (eqb (numberIn (rowOf m) 3) (seen .shares - numberIn (rowOf m) 2))) (λ e. fault 7)
-      λ f7. pick P (eqb type 26 && (not (isAt (seen .inside)) && leb 64 (seen .held))) (λ e. fault 8)
-      λ f8. rest (not-false _ f2) f3 f4 f5 f6 f8
+      pick P (not (isListed type) && isStrict (seen .rule)) (λ e. fault 1 (λ z. and-right (not (isListed type)) (isStrict (seen .rule)) e))
+      λ f1. pick P (not (goodMessage m)) (λ e. fault 2 (λ z. absurd (omega arith)))
+      λ f2. pick P (eqb type 21 && isAt (seen .order)) (λ e. fault 3 (λ z. absurd (omega arith)))
+      λ f3. pick P (eqb type 21 && leb 256 (seen .live)) (λ e. fault 4 (λ z. absurd (omega arith)))
+      λ f4. pick P (names type && not (isAt (seen .order))) (λ e. fault 5 (λ z. absurd (omega arith)))
+      λ f5. pick P (executes type && ltb (seen .shares) (numberIn (rowOf m) 2)) (λ e. fault 6 (λ z. absurd (omega arith)))
+      λ f6. pick P (executes type && not (eqb (numberIn (rowOf m) 3) (seen .shares - numberIn (rowOf m) 2))) (λ e. fault 7 (λ z. absurd (omega arith)))
+      λ f7. pick P (eqb type 26 && (not (isAt (seen .inside)) && leb 64 (seen .held))) (λ e. fault 8 (λ z. absurd (omega arith)))
+      λ f8. rest f1 (not-false _ f2) f3 f4 f5 f6 f8
 
   pub told : Good m (effectOf seen m) × Change seen m (effectOf seen m)
-  told = by-faults Told (λ reason. (tt, tt)) change
+  told = by-faults Told (λ reason one. (tt, one)) change
 
   -- where no fault holds, the effect is the change that the type makes
   pub unfaulted : isFault (effectOf seen m) ≡ false → effectOf seen m ≡ changeOf seen m
-  unfaulted = by-faults (λ (e : Effect). isFault e ≡ false → e ≡ changeOf seen m) (λ reason h. no (sym h)) (λ g three four five six eight h. refl)
+  unfaulted = by-faults (λ (e : Effect). isFault e ≡ false → e ≡ changeOf seen m) (λ reason one h. no (sym h)) (λ one g three four five six eight h. refl)
 
   -- what an effect that is known tells
   pub tells : {e : Effect} → effectOf seen m ≡ e → Good m e × Change seen m e

@@ -1,7 +1,7 @@
 -- Document 01, "Applying a message": the fault that is given, the effect, and the tables behind it.
 -- Assumes nothing.
 use mathlib.Core.Path.{_≡_}
-use mathlib.Core.Bool.{Bool, false, cond, not, _&&_}
+use mathlib.Core.Bool.{Bool, true, false, cond, not, _&&_}
 use mathlib.Core.List.{List, [], _∷_, _++_}
 use Prim.Native.Nat.{ℕ, _+_, _-_, _≤_}
 use lib.Dec.{eqb, leb, ltb}
@@ -18,13 +18,15 @@ use Rattle.message.specs.Table.{payloadOf, tooShort}
 use Rattle.message.specs.Whole.{Whole}
 use Rattle.message.specs.declared.kinds.Message.{Message}
 use Rattle.book.specs.Lookup.{isAt, placeFound, keyAt, symbolAt}
-use Rattle.book.specs.Tables.{Tables, withOrders, withInsides, withCode, withFaults, blank, idsOf, frontsOf, backsOf}
+use Rattle.book.specs.Tables.{Tables, Unlisted, withOrders, withInsides, withCode, withFaults, withUnlisted, blank, idsOf, frontsOf, backsOf}
 use Rattle.book.specs.declared.lookup.Found.{Found}
 use Rattle.book.specs.declared.tables.Order.{Order}
 use Rattle.book.specs.declared.tables.Inside.{Inside}
 use Rattle.book.specs.declared.tables.Faults.{Faults}
+use Rattle.book.specs.declared.tables.OpeningRule.{OpeningRule}
+use Rattle.book.specs.declared.tables.OpeningRule.the-variants.{Default, Strict}
 use Rattle.book.specs.declared.deciding.Effect.{Effect}
-use Rattle.book.specs.declared.deciding.Effect.the-variants.{Put, Replace, Remove, Renew, Enter, Record, Unchanged, Fault}
+use Rattle.book.specs.declared.deciding.Effect.the-variants.{Put, Replace, Remove, Renew, Enter, Record, Unchanged, Fault, CountApart}
 
 abbrev pub messageIn : List ℕ → Message
 messageIn s = fieldsOf (typeIn s) s
@@ -40,7 +42,8 @@ pub record Naming (n : ℕ) (s : List ℕ) (key : ℕ) : Type 0 where
   pub value : key ≡ numberOf (part s 7 14)
 
 -- what the tables hold of what a message names, the order of its id and for a Top of Book the inside of its symbol: how many
--- orders are live, where the order is and its shares and price, how many insides are held and where the symbol's is
+-- orders are live, where the order is and its shares and price, how many insides are held and where the symbol's is; and the rule that
+-- the opening chose
 pub record Seen : Type 0 where
   pub live : ℕ
   pub order : Found
@@ -48,6 +51,7 @@ pub record Seen : Type 0 where
   pub price : ℕ
   pub held : ℕ
   pub inside : Found
+  pub rule : OpeningRule
 
 abbrev pub topicOf : Message → List ℕ
 topicOf m = cond (eqb (typeOf m) 26) (m .symbol) noText
@@ -58,14 +62,15 @@ thereOf orders found = getD orders (placeFound found) blank
 abbrev pub orderSeen : Tables → Message → Found
 orderSeen t m = keyAt (numberOf (m .id)) (idsOf (t .orders))
 
-abbrev pub seenWith : ℕ → Found → Order → ℕ → Found → Seen
-seenWith live order there held inside =
-    record { live = live; order = order; shares = there .shares; price = there .price; held = held; inside = inside }
+abbrev pub seenWith : ℕ → Found → Order → ℕ → Found → OpeningRule → Seen
+seenWith live order there held inside rule =
+    record { live = live; order = order; shares = there .shares; price = there .price; held = held; inside = inside; rule = rule }
 
 unfoldable pub seenOf : Tables → Message → Seen
 seenOf t m =
     seenWith (length (t .orders)) (orderSeen t m) (thereOf (t .orders) (orderSeen t m)) (length (t .insides))
     (symbolAt (topicOf m) (frontsOf (t .insides)) (backsOf (t .insides)))
+    (t .unlisted .rule)
 
 -- 22 to 25 name an order; 24 and 25 execute it. Executed and remaining are the fields 2 and 3 of both
 abbrev pub names : ℕ → Bool
@@ -74,20 +79,21 @@ names type = leb 22 type && leb type 25
 abbrev pub executes : ℕ → Bool
 executes type = leb 24 type && leb type 25
 
--- the rule for types that are not in the table: under the strict one, such a message is fault 1
-pub data Rule : Type 0 where
-  strict : Rule
+-- a type that is not in the table
+abbrev pub isListed : ℕ → Bool
+isListed type = not (eqb (payloadOf type) 255)
 
-abbrev pub unlistedUnder : Rule → Effect
-unlistedUnder strict = Fault 1
+abbrev pub isStrict : OpeningRule → Bool
+isStrict Default = false
+isStrict Strict = true
 
--- "The lowest reason that holds is given": each fault, and when
-abbrev pub faultsUnder : Rule → Seen → Message → List (Bool × Effect)
-faultsUnder rule seen m =
+-- "The lowest reason that holds is given": each fault, and when; the first under the strict rule only
+abbrev pub faultsOf : Seen → Message → List (Bool × Effect)
+faultsOf seen m =
     let type = typeOf m in
     let executed = numberIn (rowOf m) 2 in
     let remaining = numberIn (rowOf m) 3 in
-    (eqb (payloadOf type) 255, unlistedUnder rule)
+    (not (isListed type) && isStrict (seen .rule), Fault 1)
     ∷ (not (goodMessage m), Fault 2)
     ∷ (eqb type 21 && isAt (seen .order), Fault 3)
     ∷ (eqb type 21 && leb 256 (seen .live), Fault 4)
@@ -104,7 +110,7 @@ executionOf order shares price executed =
     (Remove (placeFound order))
     (Replace (placeFound order) (shares - executed) price)
 
--- what a message does where no fault holds; 27, 28, 9, 11 and 12 change nothing
+-- what a message does where no fault holds; 27, 28, 9, 11 and 12 change nothing, and a type that is not in the table is counted apart
 abbrev pub changeOf : Seen → Message → Effect
 changeOf seen m =
     let n = numberIn (rowOf m) in
@@ -117,13 +123,18 @@ changeOf seen m =
     ∷ (25, executionOf (seen .order) (seen .shares) (seen .price) (n 2))
     ∷ (26, cond (isAt (seen .inside)) (Renew (placeFound (seen .inside))) Enter)
     ∷ [])
-    Unchanged
-
-abbrev pub effectUnder : Rule → Seen → Message → Effect
-effectUnder rule seen m = firstOf (faultsUnder rule seen m) (changeOf seen m)
+    (cond (isListed (typeOf m)) Unchanged CountApart)
 
 unfoldable pub effectOf : Seen → Message → Effect
-effectOf seen m = effectUnder strict seen m
+effectOf seen m = firstOf (faultsOf seen m) (changeOf seen m)
+
+-- all that a type does that is not in the table (the law `unlisted-does`)
+abbrev pub unlistedUnder : OpeningRule → Effect
+unlistedUnder rule = cond (isStrict rule) (Fault 1) CountApart
+
+-- whether a message is counted apart (the law `apart-grows`: it and no other)
+abbrev pub isApart : OpeningRule → List ℕ → Bool
+isApart rule s = not (isListed (typeIn s)) && not (isStrict rule)
 
 -- the order that an Add makes
 unfoldable pub orderOf : Message → Order
@@ -150,6 +161,10 @@ faulted f number reason =
     (record { number = number; count = 1; reason = reason })
     (record { number = f .number; count = f .count + 1; reason = f .reason })
 
+-- one message more that is counted apart, under the same rule
+abbrev pub countedApart : Unlisted → Unlisted
+countedApart u = record { rule = u .rule; count = u .count + 1 }
+
 -- the tables behind an effect of the message of a number; an order that leaves gives its place to the last one
 abbrev pub carried : Tables → ℕ → Message → Effect → Tables
 carried t number m Put = withOrders t (t .orders ++ (orderOf m ∷ []))
@@ -161,13 +176,11 @@ carried t number m Enter = withInsides t (t .insides ++ (insideOf m ∷ []))
 carried t number m (Record code) = withCode t code
 carried t number m Unchanged = t
 carried t number m (Fault reason) = withFaults t (faulted (t .faults) number reason)
+carried t number m CountApart = withUnlisted t (countedApart (t .unlisted))
 
--- the effect of a message on the tables, and the tables behind it: the feed goes by the strict rule
+-- the effect of a message on the tables, and the tables behind it
 abbrev pub effectIn : Tables → List ℕ → Effect
 effectIn t s = effectOf (seenOf t (messageIn s)) (messageIn s)
 
-unfoldable pub applyUnder : Rule → Tables → ℕ → List ℕ → Tables
-applyUnder rule t number s = carried t number (messageIn s) (effectUnder rule (seenOf t (messageIn s)) (messageIn s))
-
-abbrev pub applyOf : Tables → ℕ → List ℕ → Tables
-applyOf = applyUnder strict
+unfoldable pub applyOf : Tables → ℕ → List ℕ → Tables
+applyOf t number s = carried t number (messageIn s) (effectIn t s)

@@ -16,7 +16,7 @@ use Rattle.book.specs.Asking.{noOrderFor, noInsideFor}
 use Rattle.book.specs.declared.tables.Order.{Order}
 use Rattle.book.specs.declared.tables.Inside.{Inside}
 use Rattle.book.specs.declared.deciding.Effect.{Effect}
-use Rattle.book.specs.declared.deciding.Effect.the-variants.{Put, Replace, Remove, Renew, Enter, Record, Unchanged, Fault}
+use Rattle.book.specs.declared.deciding.Effect.the-variants.{Put, Replace, Remove, Renew, Enter, Record, Unchanged, Fault, CountApart}
 use Rattle.book.specs.declared.asking.Reply.the-variants.{Known}
 use Rattle.book.specs.declared.asking.OrderReply.{OrderReply}
 use Rattle.book.specs.declared.asking.InsideReply.{InsideReply}
@@ -63,6 +63,7 @@ isFault Enter = false
 isFault (Record code) = false
 isFault Unchanged = false
 isFault (Fault reason) = true
+isFault CountApart = false
 
 -- an Update's shares and price in the place of the order's own
 abbrev pub orderUpdated : ℕ → ℕ → Option Order → Option Order

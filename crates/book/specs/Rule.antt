@@ -54,10 +54,11 @@ pub record Kept (b : Book) : Type 0 where
   pub fronts : length (b .fronts) ≡ 64
   pub backs : length (b .backs) ≡ 64
 
--- a book that has every message below a number behind it, and the whole message of that number: no more messages faulted
--- than there are numbers below, so the count of faults never wraps
+-- a book that has every message below a number behind it, and the whole message of that number: no more messages faulted or were
+-- counted apart than there are numbers below, so neither count ever wraps
 pub record Ready (b : Book) (number : ℕ) (s : List ℕ) : Type 0 where
   pub kept : Kept b
   pub whole : Whole s
   pub counted : b .faults .count ≤ number
+  pub apart : b .unlisted .count ≤ number
   pub within : number < 4_294_967_296

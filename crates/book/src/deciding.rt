@@ -12,4 +12,6 @@ pub enum Effect {
     Record(u8),
     Unchanged,
     Fault(u8),
+    // A type that is not in the table, where that is no fault.
+    CountApart,
 }

@@ -32,6 +32,13 @@ pub struct Faults {
     pub reason: u64,
 }
 
+// The rule that an opening chooses for types that are not in the table: by default such a message is applied without
+// effect and counted apart, under the strict rule it is a fault.
+pub enum OpeningRule {
+    Default,
+    Strict,
+}
+
 // How many orders can be live, and how many insides held: as many as the indexes have places.
 pub const ORDERS: usize = book_index::PLACES;
 

@@ -2,6 +2,7 @@
 // promises the effect for all that can be seen of the tables and agrees with it.
 use book::deciding::Effect;
 use book::lookup::Found;
+use book::tables::OpeningRule;
 use book_judging::added;
 use book_judging::deleted;
 use book_judging::executed;
@@ -17,7 +18,7 @@ ghost use lib.ListN.{length};
 ghost use Rattle.message.specs.Layouts.{typeIn};
 ghost use Rattle.message.specs.Row.{fieldsOf};
 ghost use Rattle.message.specs.Whole.{Whole};
-ghost use Rattle.book.specs.Applying.{Keyed, Naming, Seen, messageIn, names, effectOf};
+ghost use Rattle.book.specs.Applying.{Keyed, Naming, Seen, messageIn, names, effectOf, unlistedUnder};
 
 pub mod reading;
 
@@ -141,10 +142,20 @@ fn trade(bytes: &[u8]) -> Effect
     kept(broken == 0, Effect::Unchanged)
 }
 
+// A type that is not in the table.
+fn unlisted(rule: OpeningRule) -> Effect
+    ensures { λ r. ⌜ r ≡ unlistedUnder rule ⌝ }
+{
+    match rule {
+        OpeningRule::Default => Effect::CountApart,
+        OpeningRule::Strict => Effect::Fault(1),
+    }
+}
+
 // Every other type: none of them touches an order.
-pub fn tell(bytes: &[u8], inside: Found, held: usize) -> Effect
+pub fn tell(bytes: &[u8], inside: Found, held: usize, rule: OpeningRule) -> Effect
     requires { ⌜ Whole (now bytes) × ((leb 21 (typeIn (now bytes)) && leb (typeIn (now bytes)) 25) ≡ false) ⌝ }
-    ensures { λ r. ⌜ ((seen : Seen) → seen .inside ≡ inside → seen .held ≡ held → r ≡ effectOf seen (messageIn (now (bytes .entry)))) ⌝ }
+    ensures { λ r. ⌜ ((seen : Seen) → seen .inside ≡ inside → seen .held ≡ held → seen .rule ≡ rule → r ≡ effectOf seen (messageIn (now (bytes .entry)))) ⌝ }
 {
     let kind = wire::u8_at(bytes, 2);
     match kind {
@@ -155,6 +166,6 @@ pub fn tell(bytes: &[u8], inside: Found, held: usize) -> Effect
         11 => Effect::Unchanged,
         12 => Effect::Unchanged,
         28 => Effect::Unchanged,
-        _ => Effect::Fault(1),
+        _ => unlisted(rule),
     }
 }

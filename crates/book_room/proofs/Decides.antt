@@ -3,8 +3,11 @@
 use mathlib.Core.Path.{_≡_, refl, ap, _∙_, sym}
 use mathlib.Core.Bool.{Bool, true, false, _&&_}
 use mathlib.Core.List.{List, [], _∷_}
+use mathlib.Core.Logic.{by-cases}
 use Prim.Native.Nat.{ℕ}
-use borrow.Author.Tests.{eqb-true}
+use native.Mathlib.Decide.{decLt}
+use native.Mathlib.Omega.{arith}
+use borrow.Author.Tests.{eqb-true, leb-true}
 use denote.Enum.Declared.{tagOf}
 use types.Run.{OneOf, miss}
 use lib.Dec.{eqb, leb}
@@ -13,17 +16,20 @@ use Rattle.wire.specs.Number.{part}
 use Rattle.fields.specs.Id.{numberOf}
 use Rattle.message.specs.Layouts.{typeIn}
 use Rattle.message.specs.Row.{fieldsOf, typeOf}
+use Rattle.message.specs.Table.{payloadOf}
 use Rattle.message.specs.Whole.{Whole}
 use Rattle.message.specs.declared.kinds.Message.{Message}
-use Rattle.book.specs.Applying.{Seen, applyOf, changeOf, effectOf, insideOf, messageIn, names, seenOf, topicOf}
+use Rattle.fields.proofs.Tests.{and-left, and-right}
+use Rattle.book.specs.Applying.{Seen, applyOf, changeOf, effectOf, insideOf, isListed, messageIn, names, seenOf, topicOf}
 use Rattle.book.specs.Lookup.{isAt, keyAt, placeFound, symbolAt}
 use Rattle.book.specs.Named.{isFault}
 use Rattle.book.specs.Rule.{Kept}
 use Rattle.book.specs.Tables.{Book, blank, rep, view}
 use Rattle.book.specs.declared.deciding.Effect.{Effect}
-use Rattle.book.specs.declared.deciding.Effect.the-variants.{Put, Replace, Remove, Renew, Enter, Record, Unchanged, Fault}
+use Rattle.book.specs.declared.deciding.Effect.the-variants.{Put, Replace, Remove, Renew, Enter, Record, Unchanged, Fault, CountApart}
 use Rattle.book.specs.declared.lookup.Found.{Found}
 use Rattle.book.specs.declared.tables.Inside.{Inside}
+use Rattle.book.specs.declared.tables.OpeningRule.{OpeningRule}
 use Rattle.book.proofs.deciding.Effect.{the-type}
 use Rattle.book.proofs.Steps.{Decided, seen-is, unchanged-done}
 use Rattle.book.proofs.Told.{Change, by-faults, tells, unfaulted}
@@ -45,6 +51,7 @@ module _ {b : Book} (s : List ℕ) (kept : Kept b) where
         price = getD (b .orders) (placeFound (keyAt (numberOf (messageIn s .id)) (take (b .live) (b .keys)))) blank .price;
         held = b .held;
         inside = symbolAt (topicOf (messageIn s)) (take (b .held) (b .fronts)) (take (b .held) (b .backs));
+        rule = b .unlisted .rule;
       })
       (seenOf (view b) (messageIn s))
   whole-seen = seen-is b s kept refl refl refl refl refl
@@ -88,11 +95,11 @@ module _ {b : Book} (s : List ℕ) (kept : Kept b) where
             (sym (ap (λ (x : Seen). x .price) whole-seen) ∙ sym price);
       }
 
-  pub decided-tell : {held : ℕ} {inside : Found} {e : Effect} → Whole s
-      → inside ≡ symbolAt (topicOf (messageIn s)) (take (b .held) (b .fronts)) (take (b .held) (b .backs)) → held ≡ b .held
-      → ((seen : Seen) → seen .inside ≡ inside → seen .held ≡ held → e ≡ effectOf seen (messageIn s))
+  pub decided-tell : {held : ℕ} {inside : Found} {rule : OpeningRule} {e : Effect} → Whole s
+      → inside ≡ symbolAt (topicOf (messageIn s)) (take (b .held) (b .fronts)) (take (b .held) (b .backs)) → held ≡ b .held → rule ≡ b .unlisted .rule
+      → ((seen : Seen) → seen .inside ≡ inside → seen .held ≡ held → seen .rule ≡ rule → e ≡ effectOf seen (messageIn s))
       → Decided b s (numberOf (messageIn s .id)) (topicOf (messageIn s)) e
-  decided-tell whole looked many is =
+  decided-tell whole looked many chosen is =
       record {
         kept = kept;
         whole = whole;
@@ -101,13 +108,24 @@ module _ {b : Book} (s : List ℕ) (kept : Kept b) where
         effect =
             is seen
             (sym (ap (λ (x : Seen). x .inside) whole-seen) ∙ sym looked)
-            (sym (ap (λ (x : Seen). x .held) whole-seen) ∙ sym many);
+            (sym (ap (λ (x : Seen). x .held) whole-seen) ∙ sym many)
+            (sym (ap (λ (x : Seen). x .rule) whole-seen) ∙ sym chosen);
       }
 
 -- ---- what is left over
 
+-- a type that names an order is in the table
+named-listed : (t : ℕ) → names t ≡ true → isListed t ≡ true
+unfolding payloadOf
+named-listed t named =
+    let lo = leb-true 22 t (and-left (leb 22 t) (leb t 25) named) in
+    let hi = leb-true t 25 (and-right (leb 22 t) (leb t 25) named) in
+    by-cases (decLt t 23) (λ l. let e : t ≡ 22 = omega arith in rw e refl)
+    λ a. by-cases (decLt t 24) (λ l. let e : t ≡ 23 = omega arith in rw e refl)
+    λ b. by-cases (decLt t 25) (λ l. let e : t ≡ 24 = omega arith in rw e refl) (λ c. let e : t ≡ 25 = omega arith in rw e refl)
+
 -- an Add that is no fault puts its order
-no-fault : (e : Effect) → OneOf (0 ∷ 1 ∷ 2 ∷ 3 ∷ 4 ∷ 5 ∷ 6 ∷ []) (tagOf the-type e) → isFault e ≡ false
+no-fault : (e : Effect) → OneOf (0 ∷ 1 ∷ 2 ∷ 3 ∷ 4 ∷ 5 ∷ 6 ∷ 8 ∷ []) (tagOf the-type e) → isFault e ≡ false
 no-fault Put h = refl
 no-fault (Replace place shares price) h = refl
 no-fault (Remove place) h = refl
@@ -115,7 +133,8 @@ no-fault (Renew place) h = refl
 no-fault Enter h = refl
 no-fault (Record code) h = refl
 no-fault Unchanged h = refl
-no-fault (Fault reason) h = absurd (miss (0 ∷ 1 ∷ 2 ∷ 3 ∷ 4 ∷ 5 ∷ 6 ∷ []) 7 tt h)
+no-fault (Fault reason) h = absurd (miss (0 ∷ 1 ∷ 2 ∷ 3 ∷ 4 ∷ 5 ∷ 6 ∷ 8 ∷ []) 7 tt h)
+no-fault CountApart h = refl
 
 -- whether an effect is one on the orders
 abbrev touches : Effect → Bool
@@ -127,12 +146,13 @@ touches Enter = false
 touches (Record code) = false
 touches Unchanged = false
 touches (Fault reason) = false
+touches CountApart = false
 
 abbrev Quiet : Effect → Type 0
 Quiet e = touches e ≡ false
 
 quiet : (seen : Seen) (m : Message) → (leb 21 (typeOf m) && leb (typeOf m) 25) ≡ false → touches (effectOf seen m) ≡ false
-quiet seen m other = by-faults seen m Quiet (λ reason. refl) (λ good three four five six eight. change)
+quiet seen m other = by-faults seen m Quiet (λ reason one. refl) (λ one good three four five six eight. change)
   where
     none : {A : Type 0} (k : ℕ) → (leb 21 k && leb k 25) ≡ true → eqb (typeOf m) k ≡ true → A
     none k in-it is = no (sym other ∙ ap (λ (j : ℕ). leb 21 j && leb j 25) (eqb-true (typeOf m) k is) ∙ in-it)
@@ -145,13 +165,14 @@ quiet seen m other = by-faults seen m Quiet (λ reason. refl) (λ good three fou
         λ f. pick Quiet (eqb (typeOf m) 23) (none 23 refl)
         λ f. pick Quiet (eqb (typeOf m) 24) (none 24 refl)
         λ f. pick Quiet (eqb (typeOf m) 25) (none 25 refl)
-        λ f. pick Quiet (eqb (typeOf m) 26) (λ e. pick Quiet (isAt (seen .inside)) (λ z. refl) (λ z. refl)) (λ e. refl)
+        λ f. pick Quiet (eqb (typeOf m) 26) (λ e. pick Quiet (isAt (seen .inside)) (λ z. refl) (λ z. refl))
+        λ f. pick Quiet (isListed (typeOf m)) (λ z. refl) (λ z. refl)
 
 module _ {b : Book} {s : List ℕ} {key : ℕ} {topic : List ℕ} {e : Effect} (d : Decided b s key topic e) where
   abbrev m : Message
   m = messageIn s
 
-  pub put-left : typeIn s ≡ 21 → OneOf (0 ∷ 1 ∷ 2 ∷ 3 ∷ 4 ∷ 5 ∷ 6 ∷ []) (tagOf the-type e) → e ≡ Put
+  pub put-left : typeIn s ≡ 21 → OneOf (0 ∷ 1 ∷ 2 ∷ 3 ∷ 4 ∷ 5 ∷ 6 ∷ 8 ∷ []) (tagOf the-type e) → e ≡ Put
   put-left type h =
       let t : typeOf m ≡ 21 = type-kept (typeIn s) s ∙ type in
       d .effect
@@ -169,21 +190,22 @@ module _ {b : Book} {s : List ℕ} {key : ℕ} {topic : List ℕ} {e : Effect} (
   enter-symbol is made = ap (λ (i : Inside). i .symbol) made ∙ top-topic s (type-of (changed is .type))
 
   -- a message that names an order replaces, removes or faults
-  pub change-left : (number : ℕ) → names (typeIn s) ≡ true → OneOf (0 ∷ 3 ∷ 4 ∷ 5 ∷ 6 ∷ []) (tagOf the-type e) → b ≡ rep (applyOf (view b) number s)
+  pub change-left : (number : ℕ) → names (typeIn s) ≡ true → OneOf (0 ∷ 3 ∷ 4 ∷ 5 ∷ 6 ∷ 8 ∷ []) (tagOf the-type e) → b ≡ rep (applyOf (view b) number s)
   change-left number named = go e refl
     where
       none : {A : Type 0} (k : ℕ) → typeOf m ≡ k → names k ≡ false → A
       none k is out = no (sym out ∙ ap names (sym (type-of is)) ∙ named)
 
-      go : (e′ : Effect) → e ≡ e′ → OneOf (0 ∷ 3 ∷ 4 ∷ 5 ∷ 6 ∷ []) (tagOf the-type e′) → b ≡ rep (applyOf (view b) number s)
+      go : (e′ : Effect) → e ≡ e′ → OneOf (0 ∷ 3 ∷ 4 ∷ 5 ∷ 6 ∷ 8 ∷ []) (tagOf the-type e′) → b ≡ rep (applyOf (view b) number s)
       go Put is h = none 21 (changed is .type) refl
-      go (Replace place shares price) is h = absurd (miss (0 ∷ 3 ∷ 4 ∷ 5 ∷ 6 ∷ []) 1 tt h)
-      go (Remove place) is h = absurd (miss (0 ∷ 3 ∷ 4 ∷ 5 ∷ 6 ∷ []) 2 tt h)
+      go (Replace place shares price) is h = absurd (miss (0 ∷ 3 ∷ 4 ∷ 5 ∷ 6 ∷ 8 ∷ []) 1 tt h)
+      go (Remove place) is h = absurd (miss (0 ∷ 3 ∷ 4 ∷ 5 ∷ 6 ∷ 8 ∷ []) 2 tt h)
       go (Renew place) is h = none 26 (changed is .type) refl
       go Enter is h = none 26 (changed is .type) refl
       go (Record code) is h = none 20 (changed is .type) refl
       go Unchanged is h = unchanged-done d number is
-      go (Fault reason) is h = absurd (miss (0 ∷ 3 ∷ 4 ∷ 5 ∷ 6 ∷ []) 7 tt h)
+      go (Fault reason) is h = absurd (miss (0 ∷ 3 ∷ 4 ∷ 5 ∷ 6 ∷ 8 ∷ []) 7 tt h)
+      go CountApart is h = no (sym (changed is .0) ∙ named-listed (typeOf m) (ap names (type-kept (typeIn s) s) ∙ named))
 
   -- any other message touches no order
   pub tell-left : (number : ℕ) → (leb 21 (typeIn s) && leb (typeIn s) 25) ≡ false → OneOf (0 ∷ 1 ∷ 2 ∷ 6 ∷ []) (tagOf the-type e) → b ≡ rep (applyOf (view b) number s)
@@ -201,6 +223,7 @@ module _ {b : Book} {s : List ℕ} {key : ℕ} {topic : List ℕ} {e : Effect} (
       go (Record code) is h = absurd (miss (0 ∷ 1 ∷ 2 ∷ 6 ∷ []) 5 tt h)
       go Unchanged is h = unchanged-done d number is
       go (Fault reason) is h = absurd (miss (0 ∷ 1 ∷ 2 ∷ 6 ∷ []) 7 tt h)
+      go CountApart is h = absurd (miss (0 ∷ 1 ∷ 2 ∷ 6 ∷ []) 8 tt h)
 
 -- the order that is replaced or leaves is the one that the message names
 module _ {b : Book} {s : List ℕ} {key : ℕ} {topic : List ℕ} {e : Effect} (d : Decided b s key topic e) where

@@ -7,14 +7,14 @@ use Prim.Native.Nat.{ℕ, _+_, _-_, _<_}
 use native.Mathlib.Omega.{arith}
 use lib.ListN.{getD, set}
 use Rattle.message.specs.Row.{fieldsOf}
-use Rattle.book.specs.Applying.{faulted, insideOf, orderOf}
+use Rattle.book.specs.Applying.{countedApart, faulted, insideOf, orderOf}
 use Rattle.book.specs.Lookup.{backOf, frontOf}
-use Rattle.book.specs.Tables.{Book, blank, holdingInsides, holdingMarks, holdingOrders, noOrder}
+use Rattle.book.specs.Tables.{Book, blank, holdingInsides, holdingMarks, holdingOrders, holdingUnlisted, noOrder}
 use Rattle.book.specs.declared.deciding.Effect.{Effect}
 use Rattle.book.specs.declared.deciding.Effect.the-variants as effect
 use Rattle.book.specs.declared.tables.Inside.{Inside}
 use Rattle.book.proofs.Carrying.{restored-is}
-use Rattle.book.proofs.Steps.{Decided, enter-done, fault-done, put-done, put-naming, record-done, remove-done, remove-within, renew-done, replace-done, replace-within}
+use Rattle.book.proofs.Steps.{Decided, apart-done, enter-done, fault-done, put-done, put-naming, record-done, remove-done, remove-within, renew-done, replace-done, replace-within}
 use Rattle.book_room.proofs.Decides.{remove-at, replace-at}
 use Rattle.book_room.specs.Arms.{Added, Changed, Told, after}
 use Rattle.book_room.specs.Room.{Counts, Gone, Houses, Lies, roomOf}
@@ -26,7 +26,7 @@ module _ {room : List ℕ} {next end : ℕ} {b : Book} {number : ℕ} {s : List 
   lies = record { kept = h .ready .kept; is = h .is }
 
   pub counts : Counts room next end b number
-  counts = record { lies = lies; counted = h .ready .counted; within = h .ready .within }
+  counts = record { lies = lies; counted = h .ready .counted; apart = h .ready .apart; within = h .ready .within }
 
 never : {A : Type 0} → _≡_ {A = ℕ} 0 1 → A
 never e = absurd (omega arith)
@@ -119,6 +119,11 @@ module _ (next end number : ℕ) {b : Book} {s : List ℕ} {key : ℕ} {topic : 
             ∙ ap (roomOf next end) done;
         orders = sym (ap (λ (x : Book). x .orders) done);
       }
+
+  pub told-apart : e ≡ effect.CountApart → now ≡ roomOf next end (holdingUnlisted b (countedApart (b .unlisted))) → Told now next end b number s
+  told-apart is written =
+      let done = apart-done d number is in
+      record { is = written ∙ ap (roomOf next end) done; orders = sym (ap (λ (x : Book). x .orders) done) }
 
   pub told-record : {code : ℕ} → e ≡ effect.Record code → now ≡ roomOf next end (holdingMarks b code (b .faults)) → Told now next end b number s
   told-record is written =

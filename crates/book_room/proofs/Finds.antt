@@ -93,17 +93,17 @@ module _ (symbol fronts backs : List ℕ) (held : ℕ) {first last : ℕ} (fore 
 -- ---- what an index of a room tells is told of the book
 
 module _ {room : List ℕ} {next end : ℕ} {b : Book} (lies : Lies room next end b) where
-  pub last-in : {key at : ℕ} → IsLast key (take 256 (drop 8 room)) (getD room 2 0) at → IsLast key (b .keys) (b .live) at
+  pub last-in : {key at : ℕ} → IsLast key (take 256 (drop 10 room)) (getD room 2 0) at → IsLast key (b .keys) (b .live) at
   last-in {key} {at} last =
       subst (λ (l : List ℕ). IsLast key l (b .live) at) (keys-at (filled lies))
-      (subst (λ (n : ℕ). IsLast key (take 256 (drop 8 room)) n at) (live-at (filled lies)) last)
+      (subst (λ (n : ℕ). IsLast key (take 256 (drop 10 room)) n at) (live-at (filled lies)) last)
 
-  pub pair-in : {first last at : ℕ} → IsPair first last (take 64 (drop 1794 room)) (take 64 (drop 1858 room)) (getD room 3 0) at
+  pub pair-in : {first last at : ℕ} → IsPair first last (take 64 (drop 1796 room)) (take 64 (drop 1860 room)) (getD room 3 0) at
       → IsPair first last (b .fronts) (b .backs) (b .held) at
   pair-in {first} {last} {at} is =
       subst (λ (l : List ℕ). IsPair first last l (b .backs) (b .held) at) (fronts-at (filled lies))
-      (subst (λ (l : List ℕ). IsPair first last (take 64 (drop 1794 room)) l (b .held) at) (backs-at (filled lies))
-      (subst (λ (n : ℕ). IsPair first last (take 64 (drop 1794 room)) (take 64 (drop 1858 room)) n at) (held-at (filled lies)) is))
+      (subst (λ (l : List ℕ). IsPair first last (take 64 (drop 1796 room)) l (b .held) at) (backs-at (filled lies))
+      (subst (λ (n : ℕ). IsPair first last (take 64 (drop 1796 room)) (take 64 (drop 1860 room)) n at) (held-at (filled lies)) is))
 
   pub held-same : length (take (b .held) (b .fronts)) ≡ length (take (b .held) (b .backs))
   held-same =

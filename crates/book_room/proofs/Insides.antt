@@ -99,27 +99,27 @@ row-get (i ∷ is) (suc p) j h l =
     ap (λ (k : ℕ). getD (rowOf i ++ rowsOf is) k 0) e ∙ getD-append-add (rowOf i) (rowsOf is) (6 * p + j) 0 ∙ row-get is p j (omega arith) l
 
 module _ {room : List ℕ} {next end : ℕ} {b : Book} (lies : Lies room next end b) where
-  row-in : (p j : ℕ) → p < 64 → j < 6 → getD room (1922 + 6 * p + j) 0 ≡ getD (rowOf (getD (b .insides) p gone)) j 0
+  row-in : (p j : ℕ) → p < 64 → j < 6 → getD room (1924 + 6 * p + j) 0 ≡ getD (rowOf (getD (b .insides) p gone)) j 0
   row-in p j h l =
       let z = sized (filled lies) in
-      let e : 1922 + 6 * p + j ≡ length (before-rows z) + (6 * p + j) = omega (arith, before-long z) in
+      let e : 1924 + 6 * p + j ≡ length (before-rows z) + (6 * p + j) = omega (arith, before-long z) in
       ap₂ (λ (r : List ℕ) (k : ℕ). getD r k 0) (lies .is ∙ rows-last z (rowsOf (b .insides))) e
       ∙ getD-append-add (before-rows z) (rowsOf (b .insides)) (6 * p + j) 0
       ∙ row-get (b .insides) p j (omega (arith, lies .kept .insides)) l
 
-  front-in : (p : ℕ) → p < 64 → getD room (1794 + p) 0 ≡ getD (b .fronts) p 0
-  front-in p h = ap (λ (r : List ℕ). getD r (1794 + p) 0) (lies .is) ∙ get-part (at-fronts (sized (filled lies))) (b .fronts) p (omega (arith, lies .kept .fronts))
+  front-in : (p : ℕ) → p < 64 → getD room (1796 + p) 0 ≡ getD (b .fronts) p 0
+  front-in p h = ap (λ (r : List ℕ). getD r (1796 + p) 0) (lies .is) ∙ get-part (at-fronts (sized (filled lies))) (b .fronts) p (omega (arith, lies .kept .fronts))
 
-  back-in : (p : ℕ) → p < 64 → getD room (1858 + p) 0 ≡ getD (b .backs) p 0
-  back-in p h = ap (λ (r : List ℕ). getD r (1858 + p) 0) (lies .is) ∙ get-part (at-backs (sized (filled lies))) (b .backs) p (omega (arith, lies .kept .backs))
+  back-in : (p : ℕ) → p < 64 → getD room (1860 + p) 0 ≡ getD (b .backs) p 0
+  back-in p h = ap (λ (r : List ℕ). getD r (1860 + p) 0) (lies .is) ∙ get-part (at-backs (sized (filled lies))) (b .backs) p (omega (arith, lies .kept .backs))
 
   -- the inside at a place, but for its symbol's bytes
   pub inside-in : (p : ℕ) → p < 64
       → insideAt room p
       ≡ record { ask = getD (b .insides) p gone .ask; bid = getD (b .insides) p gone .bid; time = getD (b .insides) p gone .time; askvolume = getD (b .insides) p gone .askvolume; bidvolume = getD (b .insides) p gone .bidvolume; symbol = symbolBy (getD (b .fronts) p 0) (getD (b .backs) p 0); unsolicited = getD (b .insides) p gone .unsolicited }
   inside-in p h =
-      let first : 1922 + 6 * p ≡ 1922 + 6 * p + 0 = omega arith in
-      let ask : getD room (1922 + 6 * p) 0 ≡ getD (b .insides) p gone .ask = ap (λ (k : ℕ). getD room k 0) first ∙ row-in p 0 h (omega arith) in
+      let first : 1924 + 6 * p ≡ 1924 + 6 * p + 0 = omega arith in
+      let ask : getD room (1924 + 6 * p) 0 ≡ getD (b .insides) p gone .ask = ap (λ (k : ℕ). getD room k 0) first ∙ row-in p 0 h (omega arith) in
       λ i.
       record {
         ask = ask i;

@@ -12,9 +12,11 @@ use Rattle.book.specs.Lookup.{frontOf, backOf}
 use Rattle.book.specs.Rule.{Apart, Distinct, Kept}
 use Rattle.book.specs.Tables.{Book, Tables, backsOf, frontsOf, idsOf, view}
 use Rattle.book.specs.declared.tables.Inside.{Inside}
+use Rattle.book.specs.declared.tables.OpeningRule.{OpeningRule}
+use Rattle.book.specs.declared.tables.OpeningRule.the-variants.{Default, Strict}
 use Rattle.book.proofs.Carrying.{live-is, held-is, keys-are, fronts-are, backs-are}
 use Rattle.book.proofs.Steps.{front-keys}
-use Rattle.book_room.specs.Room.{Filled, Lies, numbersOf, roomOf, rowOf, rowsOf}
+use Rattle.book_room.specs.Room.{Filled, Lies, numbersOf, roomOf, rowOf, rowsOf, ruleBy, ruleNumber}
 use Rattle.book_room.proofs.Parts.{Sized, at-backs, at-fronts, at-index, at-keys, at-numbers, at-symbols, get-part, read-part, size}
 
 pub length-rows : (is : List Inside) → length (rowsOf is) ≡ 6 * length is
@@ -47,7 +49,7 @@ module _ (next end : ℕ) (b : Book) (keys : length (b .keys) ≡ 256) (insides 
         rows = length-rows (b .insides) ∙ omega arith;
       }
 
-  pub length-room : length (roomOf next end b) ≡ 2306
+  pub length-room : length (roomOf next end b) ≡ 2308
   length-room = size sizes
 
 pub sized : {room : List ℕ} {next end : ℕ} {b : Book} → Filled room next end b
@@ -74,15 +76,20 @@ module _ {b : Book} (kept : Kept b) where
       in
       subst (λ (l : List ℕ). Apart l (take (b .held) (b .backs))) fronts (subst (Apart (frontsOf (t .insides))) backs (kept .sound .apart))
 
+-- a rule's number is the rule's
+pub rule-by : (rule : OpeningRule) → ruleBy (ruleNumber rule) ≡ rule
+rule-by Default = refl
+rule-by Strict = refl
+
 module _ {room : List ℕ} {next end : ℕ} {b : Book} (fill : Filled room next end b) where
   z : Sized (numbersOf next end b) (b .keys) (indexOf (take (b .live) (b .keys))) (indexOf (take (b .held) (b .fronts))) (b .fronts) (b .backs) (rowsOf (b .insides))
   z = sized fill
 
-  pub long : length room ≡ 2306
+  pub long : length room ≡ 2308
   long = ap length (fill .is) ∙ size z
 
   -- a number at the front
-  pub number-at : (i : ℕ) → i < 8 → getD room i 0 ≡ getD (numbersOf next end b) i 0
+  pub number-at : (i : ℕ) → i < 10 → getD room i 0 ≡ getD (numbersOf next end b) i 0
   number-at i h =
       let e : i ≡ 0 + i = omega arith in
       ap₂ (λ (l : List ℕ) (k : ℕ). getD l k 0) (fill .is) e ∙ get-part (at-numbers z) (numbersOf next end b) i h
@@ -93,22 +100,26 @@ module _ {room : List ℕ} {next end : ℕ} {b : Book} (fill : Filled room next 
   pub held-at : getD room 3 0 ≡ b .held
   held-at = number-at 3 (omega arith)
 
-  pub keys-at : take 256 (drop 8 room) ≡ b .keys
-  keys-at = ap (λ (l : List ℕ). take 256 (drop 8 l)) (fill .is) ∙ read-part (at-keys z) (b .keys) 256 (z .keys)
+  -- the rule, by its number
+  pub rule-at : ruleBy (getD room 8 0) ≡ b .unlisted .rule
+  rule-at = ap ruleBy (number-at 8 (omega arith)) ∙ rule-by (b .unlisted .rule)
 
-  pub index-at : take 765 (drop 264 room) ≡ indexOf (take (b .live) (b .keys))
-  index-at = ap (λ (l : List ℕ). take 765 (drop 264 l)) (fill .is) ∙ read-part (at-index z) (indexOf (take (b .live) (b .keys))) 765 (z .index)
+  pub keys-at : take 256 (drop 10 room) ≡ b .keys
+  keys-at = ap (λ (l : List ℕ). take 256 (drop 10 l)) (fill .is) ∙ read-part (at-keys z) (b .keys) 256 (z .keys)
 
-  pub symbols-at : take 765 (drop 1029 room) ≡ indexOf (take (b .held) (b .fronts))
-  symbols-at = ap (λ (l : List ℕ). take 765 (drop 1029 l)) (fill .is) ∙ read-part (at-symbols z) (indexOf (take (b .held) (b .fronts))) 765 (z .symbols)
+  pub index-at : take 765 (drop 266 room) ≡ indexOf (take (b .live) (b .keys))
+  index-at = ap (λ (l : List ℕ). take 765 (drop 266 l)) (fill .is) ∙ read-part (at-index z) (indexOf (take (b .live) (b .keys))) 765 (z .index)
 
-  pub fronts-at : take 64 (drop 1794 room) ≡ b .fronts
-  fronts-at = ap (λ (l : List ℕ). take 64 (drop 1794 l)) (fill .is) ∙ read-part (at-fronts z) (b .fronts) 64 (z .fronts)
+  pub symbols-at : take 765 (drop 1031 room) ≡ indexOf (take (b .held) (b .fronts))
+  symbols-at = ap (λ (l : List ℕ). take 765 (drop 1031 l)) (fill .is) ∙ read-part (at-symbols z) (indexOf (take (b .held) (b .fronts))) 765 (z .symbols)
 
-  pub backs-at : take 64 (drop 1858 room) ≡ b .backs
-  backs-at = ap (λ (l : List ℕ). take 64 (drop 1858 l)) (fill .is) ∙ read-part (at-backs z) (b .backs) 64 (z .backs)
+  pub fronts-at : take 64 (drop 1796 room) ≡ b .fronts
+  fronts-at = ap (λ (l : List ℕ). take 64 (drop 1796 l)) (fill .is) ∙ read-part (at-fronts z) (b .fronts) 64 (z .fronts)
 
-  pub indexed : Indexed (take 765 (drop 264 room)) (take 256 (drop 8 room)) (getD room 2 0)
+  pub backs-at : take 64 (drop 1860 room) ≡ b .backs
+  backs-at = ap (λ (l : List ℕ). take 64 (drop 1860 l)) (fill .is) ∙ read-part (at-backs z) (b .backs) 64 (z .backs)
+
+  pub indexed : Indexed (take 765 (drop 266 room)) (take 256 (drop 10 room)) (getD room 2 0)
   indexed =
       record {
         few = omega (arith, live-at, fill .live);
@@ -116,7 +127,7 @@ module _ {room : List ℕ} {next end : ℕ} {b : Book} (fill : Filled room next 
         is = index-at ∙ ap₂ (λ (n : ℕ) (l : List ℕ). indexOf (take n l)) (sym live-at) (sym keys-at);
       }
 
-  pub paired : Paired (take 765 (drop 1029 room)) (take 64 (drop 1794 room)) (take 64 (drop 1858 room)) (getD room 3 0)
+  pub paired : Paired (take 765 (drop 1031 room)) (take 64 (drop 1796 room)) (take 64 (drop 1860 room)) (getD room 3 0)
   paired =
       record {
         few = omega (arith, held-at, fill .held);

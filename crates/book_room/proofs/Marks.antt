@@ -26,7 +26,7 @@ abbrev marked : ℕ → ℕ → Book → Faults → List ℕ
 marked next end b faults = roomOf next end (holdingMarks b (b .code) faults)
 
 module _ {room : List ℕ} {next end : ℕ} {b : Book} (lies : Lies room next end b) {number reason : ℕ} {after : List ℕ} where
-  pub noted-long : Noted room number reason after → length after ≡ 2306
+  pub noted-long : Noted room number reason after → length after ≡ 2308
   noted-long (first none is) = ap length (is) ∙ simp length-set (long (filled lies))
   noted-long (later some is) = ap length (is) ∙ long (filled lies)
 

@@ -52,7 +52,7 @@ module _ {whole : List ℕ → List ℕ} {at : ℕ} (cut : Cut whole at) (part :
 -- ---- the seven parts
 
 pub record Sized (n k i s f b r : List ℕ) : Type 0 where
-  pub numbers : length n ≡ 8
+  pub numbers : length n ≡ 10
   pub keys : length k ≡ 256
   pub index : length i ≡ 765
   pub symbols : length s ≡ 765
@@ -61,7 +61,7 @@ pub record Sized (n k i s f b r : List ℕ) : Type 0 where
   pub rows : length r ≡ 384
 
 module _ {n k i s f b r : List ℕ} (z : Sized n k i s f b r) where
-  pub size : length (partsOf n k i s f b r) ≡ 2306
+  pub size : length (partsOf n k i s f b r) ≡ 2308
   unfolding partsOf
   size = simp (length-append, z .numbers, z .keys, z .index, z .symbols, z .fronts, z .backs, z .rows)
 
@@ -69,21 +69,21 @@ module _ {n k i s f b r : List ℕ} (z : Sized n k i s f b r) where
   unfolding partsOf
   at-numbers = record { front = []; rest = k ++ (i ++ (s ++ (f ++ (b ++ r)))); long = refl; is = λ part. refl }
 
-  pub at-keys : Cut (λ l. partsOf n l i s f b r) 8
+  pub at-keys : Cut (λ l. partsOf n l i s f b r) 10
   unfolding partsOf
   at-keys = record { front = n; rest = i ++ (s ++ (f ++ (b ++ r))); long = z .numbers; is = λ part. refl }
 
-  pub at-index : Cut (λ l. partsOf n k l s f b r) 264
+  pub at-index : Cut (λ l. partsOf n k l s f b r) 266
   unfolding partsOf
   at-index =
       record { front = n ++ k; rest = s ++ (f ++ (b ++ r)); long = simp (length-append, z .numbers, z .keys); is = λ part. simp append-assoc }
 
-  pub at-symbols : Cut (λ l. partsOf n k i l f b r) 1029
+  pub at-symbols : Cut (λ l. partsOf n k i l f b r) 1031
   unfolding partsOf
   at-symbols =
       record { front = n ++ (k ++ i); rest = f ++ (b ++ r); long = simp (length-append, z .numbers, z .keys, z .index); is = λ part. simp append-assoc }
 
-  pub at-fronts : Cut (λ l. partsOf n k i s l b r) 1794
+  pub at-fronts : Cut (λ l. partsOf n k i s l b r) 1796
   unfolding partsOf
   at-fronts =
       record {
@@ -93,7 +93,7 @@ module _ {n k i s f b r : List ℕ} (z : Sized n k i s f b r) where
         is = λ part. simp append-assoc;
       }
 
-  pub at-backs : Cut (λ l. partsOf n k i s f l r) 1858
+  pub at-backs : Cut (λ l. partsOf n k i s f l r) 1860
   unfolding partsOf
   at-backs =
       record {
@@ -108,7 +108,7 @@ module _ {n k i s f b r : List ℕ} (z : Sized n k i s f b r) where
   abbrev pub before-rows : List ℕ
   before-rows = n ++ (k ++ (i ++ (s ++ (f ++ b))))
 
-  pub before-long : length before-rows ≡ 1922
+  pub before-long : length before-rows ≡ 1924
   before-long = simp (length-append, z .numbers, z .keys, z .index, z .symbols, z .fronts, z .backs)
 
   pub rows-last : (rows : List ℕ) → partsOf n k i s f b rows ≡ before-rows ++ rows

@@ -1,24 +1,29 @@
--- How the tables' numbers lie in the room that a host lends: 2,306 numbers, each thing at its place.
+-- How the tables' numbers lie in the room that a host lends: 2,308 numbers, each thing at its place.
 --
 --      0  next, then end, how many orders are live, how many insides are held, the code, the first fault's number, the count of faults,
---         the first fault's reason
---      8  the id values of the live orders, in the order of their places (256)
---    264  the index over them (765)
---  1,029  the index over the insides (765)
---  1,794  the first of the two numbers of each inside's symbol (64)
---  1,858  the last (64)
---  1,922  six numbers more of each inside (384)
+--         the first fault's reason, the rule for types that are not in the table (0 or 1), how many of them were counted apart
+--     10  the id values of the live orders, in the order of their places (256)
+--    266  the index over them (765)
+--  1,031  the index over the insides (765)
+--  1,796  the first of the two numbers of each inside's symbol (64)
+--  1,860  the last (64)
+--  1,924  six numbers more of each inside (384)
 --
 -- Assumes nothing.
 use mathlib.Core.Path.{_≡_}
+use mathlib.Core.Bool.{cond}
 use mathlib.Core.List.{List, [], _∷_, _++_}
 use Prim.Native.Nat.{ℕ, zero, suc, _+_, _-_, _*_, _≤_, _<_}
+use lib.Dec.{eqb}
 use lib.ListN.{length, getD, set, take}
 use Rattle.wire.specs.Number.{be}
 use Rattle.book_index.specs.Chains.{indexOf}
+use Rattle.book.specs.Applying.{isStrict}
 use Rattle.book.specs.Rule.{Kept, Ready}
 use Rattle.book.specs.Tables.{Book, holdingOrders}
 use Rattle.book.specs.declared.tables.Inside.{Inside}
+use Rattle.book.specs.declared.tables.OpeningRule.{OpeningRule}
+use Rattle.book.specs.declared.tables.OpeningRule.the-variants.{Default, Strict}
 
 -- the six numbers of an inside beside its symbol's two
 abbrev pub rowOf : Inside → List ℕ
@@ -28,13 +33,34 @@ unfoldable pub rowsOf : List Inside → List ℕ
 rowsOf [] = []
 rowsOf (i ∷ is) = rowOf i ++ rowsOf is
 
+-- how many numbers the room has
+abbrev pub roomSize : ℕ
+roomSize = 2308
+
+-- a rule as a number, and the rule that a number is
+abbrev pub ruleNumber : OpeningRule → ℕ
+ruleNumber rule = cond (isStrict rule) 1 0
+
+abbrev pub ruleBy : ℕ → OpeningRule
+ruleBy n = cond (eqb n 1) Strict Default
+
 -- the room, part by part
 unfoldable pub partsOf : List ℕ → List ℕ → List ℕ → List ℕ → List ℕ → List ℕ → List ℕ → List ℕ
 partsOf numbers keys index symbols fronts backs rows = numbers ++ (keys ++ (index ++ (symbols ++ (fronts ++ (backs ++ rows)))))
 
 abbrev pub numbersOf : ℕ → ℕ → Book → List ℕ
 numbersOf next end b =
-    next ∷ end ∷ b .live ∷ b .held ∷ b .code ∷ b .faults .number ∷ b .faults .count ∷ b .faults .reason ∷ []
+    next
+    ∷ end
+    ∷ b .live
+    ∷ b .held
+    ∷ b .code
+    ∷ b .faults .number
+    ∷ b .faults .count
+    ∷ b .faults .reason
+    ∷ ruleNumber (b .unlisted .rule)
+    ∷ b .unlisted .count
+    ∷ []
 
 -- the one room that holds next, end and a book's numbers
 abbrev pub roomOf : ℕ → ℕ → Book → List ℕ
@@ -49,13 +75,13 @@ symbolBy first last = take 6 (be 8 first) ++ be 8 last
 abbrev pub insideAt : List ℕ → ℕ → Inside
 insideAt room place =
     record {
-      ask = getD room (1922 + 6 * place) 0;
-      bid = getD room (1922 + 6 * place + 1) 0;
-      time = getD room (1922 + 6 * place + 2) 0;
-      askvolume = getD room (1922 + 6 * place + 3) 0;
-      bidvolume = getD room (1922 + 6 * place + 4) 0;
-      symbol = symbolBy (getD room (1794 + place) 0) (getD room (1858 + place) 0);
-      unsolicited = getD room (1922 + 6 * place + 5) 0;
+      ask = getD room (1924 + 6 * place) 0;
+      bid = getD room (1924 + 6 * place + 1) 0;
+      time = getD room (1924 + 6 * place + 2) 0;
+      askvolume = getD room (1924 + 6 * place + 3) 0;
+      bidvolume = getD room (1924 + 6 * place + 4) 0;
+      symbol = symbolBy (getD room (1796 + place) 0) (getD room (1860 + place) 0);
+      unsolicited = getD room (1924 + 6 * place + 5) 0;
     }
 
 unfoldable pub insidesFrom : List ℕ → ℕ → ℕ → List Inside
@@ -71,10 +97,11 @@ pub record Lies (room : List ℕ) (next end : ℕ) (b : Book) : Type 0 where
   pub kept : Kept b
   pub is : room ≡ roomOf next end b
 
--- with a count of faults that one more does not wrap
+-- with a count of faults, and one of what was counted apart, that one more does not wrap
 pub record Counts (room : List ℕ) (next end : ℕ) (b : Book) (number : ℕ) : Type 0 where
   pub lies : Lies room next end b
   pub counted : b .faults .count ≤ number
+  pub apart : b .unlisted .count ≤ number
   pub within : number < 4_294_967_296
 
 -- and a book that is ready for a message of a number

@@ -8,3 +8,4 @@ pub mod finding;
 pub mod marking;
 pub mod room;
 pub mod telling;
+pub mod unlisted;

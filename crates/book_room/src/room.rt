@@ -20,8 +20,13 @@ pub const COUNT: usize = 6;
 
 pub const REASON: usize = 7;
 
+// The rule for types that are not in the table, 0 or 1, and how many of them were counted apart.
+pub const RULE: usize = 8;
+
+pub const APART: usize = 9;
+
 // The id values of the live orders, and the index over them.
-pub const KEYS: usize = 8;
+pub const KEYS: usize = 10;
 
 pub const INDEX: usize = KEYS + ORDERS;
 

@@ -8,6 +8,8 @@ use crate::room::HELD;
 use crate::room::ROW;
 use crate::room::ROWS;
 use crate::room::SYMBOLS;
+use crate::unlisted::count_apart;
+use crate::unlisted::rule_in;
 use book::deciding::Effect;
 use book::lookup::Found;
 use book::lookup::back;
@@ -75,8 +77,9 @@ pub fn tell(room: &mut [u64], bytes: &[u8], number: u64)
     ensures { λ _. ⌜ ((next end : ℕ) (b : Book) → Houses (now (room .entry)) next end b number (now (bytes .entry)) → Told (now (room .exit)) next end b number (now (bytes .entry))) ⌝ }
 {
     let held = room[HELD] as usize;
+    let rule = rule_in(room);
     let inside = told(room, bytes);
-    match book_deciding::tell(bytes, inside, held) {
+    match book_deciding::tell(bytes, inside, held, rule) {
         Effect::Renew(place) => {
             let made = inside_of(bytes);
             write(room, place, made);
@@ -89,6 +92,7 @@ pub fn tell(room: &mut [u64], bytes: &[u8], number: u64)
         }
         Effect::Record(code) => room[CODE] = code as u64,
         Effect::Fault(reason) => mark(room, number, reason),
+        Effect::CountApart => count_apart(room, number),
         _ => {}
     }
 }

@@ -40,7 +40,7 @@ fn opened(
         return session;
     }
     let number = records::number_of(&bytes[HEAD..size]);
-    Session::open(number, room, window)
+    Session::open_strict(number, room, window)
 }
 
 // Takes each whole record among the bytes, and prints its line.
@@ -137,7 +137,7 @@ fn main() {
     let mut buf = [0u8; 131072];
     let mut room = [0u64; Session::ROOM];
     let mut window = [0u8; Session::PLACES];
-    let mut session = Session::open(0, &mut room, &mut window);
+    let mut session = Session::open_strict(0, &mut room, &mut window);
     let mut fresh = true;
     let mut from: usize = 0;
     let mut to: usize = 0;

@@ -4,6 +4,7 @@ use book::lookup::Found;
 use book::lookup::back;
 use book::lookup::front;
 use book::tables::Inside;
+use book::tables::OpeningRule;
 use book::tables::Order;
 use book_room::finding::found;
 use book_room::room::HELD;
@@ -19,8 +20,8 @@ ghost use mathlib.Core.List.{List};
 ghost use lib.ListN.{length};
 ghost use Rattle.window.specs.Runs.{askedOf, bufferAfter};
 ghost use Rattle.book.specs.Asking.{insideFor};
-ghost use Rattle.book_room.specs.Room.{insidesIn};
-ghost use Rattle.session.specs.Meaning.{held, Ruled};
+ghost use Rattle.book_room.specs.Room.{insidesIn, ruleNumber};
+ghost use Rattle.session.specs.Meaning.{apartIn, held, ruleIn, Ruled};
 ghost use Rattle.session.specs.Asking.{gapFrom, gapsOf, lineIn, lowestNumber};
 ghost use Rattle.session.specs.Quoting.{refusalIn};
 ghost use Rattle.session.specs.declared.state.Session.{Session as Table};
@@ -57,6 +58,26 @@ pub extern "C" fn jangsebit_lowest(room: &Room, window: &Window) -> u64
     ensures { λ r. ⌜ r ≡ lowestNumber (lineIn (now (room .entry)) (now (window .entry))) ⌝ }
 {
     session::asking::lowest(room, window)
+}
+
+// The rule that the opening chose for types that are not in the table: 0 by default, 1 for the strict one.
+#[no_mangle]
+pub extern "C" fn jangsebit_rule(room: &Room) -> u64
+    ensures { λ r. ⌜ r ≡ ruleNumber (ruleIn (now (room .entry))) ⌝ }
+{
+    let rule = session::asking::rule(room);
+    match rule {
+        OpeningRule::Default => 0,
+        OpeningRule::Strict => 1,
+    }
+}
+
+// How many messages of such a type were counted apart.
+#[no_mangle]
+pub extern "C" fn jangsebit_unlisted(room: &Room) -> u64
+    ensures { λ r. ⌜ r ≡ apartIn (now (room .entry)) ⌝ }
+{
+    session::asking::unlisted(room)
 }
 
 fn firm_of(firm: [u8; 4]) -> u64

@@ -20,6 +20,8 @@ pub use asking::jangsebit_inside;
 pub use asking::jangsebit_lowest;
 pub use asking::jangsebit_numbers;
 pub use asking::jangsebit_requests;
+pub use asking::jangsebit_rule;
+pub use asking::jangsebit_unlisted;
 use book_room::room::Room;
 pub use keeping::jangsebit_keep;
 pub use keeping::jangsebit_keep_packets;
@@ -32,9 +34,11 @@ ghost use Prim.Native.Nat.{ℕ};
 ghost use mathlib.Core.List.{List};
 ghost use lib.ListN.{length};
 ghost use Rattle.merge.specs.State.{applySome, opened};
-ghost use Rattle.session.specs.Meaning.{feed, held, overnight, rep, tablesIn, view, Ruled, Sized};
+ghost use Rattle.session.specs.Meaning.{held, overnight, rep, tablesIn, view, Ruled, Sized};
 ghost use Rattle.session.specs.Bursts.{appliedBy};
 ghost use Rattle.book.specs.Asking.{orderAsked};
+ghost use Rattle.book.specs.Tables.{fresh};
+ghost use Rattle.book.specs.declared.tables.OpeningRule.the-variants.{Default, Strict};
 ghost use Rattle.exports.specs.Handed.{answersBy, takenBy, takenTold};
 ghost use Rattle.session.specs.Quoting.{quotedOf, quotesAfter, refusalIn};
 ghost use Rattle.exports.specs.Told.{orderTold};
@@ -42,12 +46,13 @@ ghost use Rattle.exports.specs.Told.{orderTold};
 // The version of these exports.
 #[no_mangle]
 pub extern "C" fn jangsebit_version() -> u32
-    ensures { λ r. ⌜ r ≡ 2 ⌝ }
+    ensures { λ r. ⌜ r ≡ 3 ⌝ }
 {
-    2
+    3
 }
 
-// A fresh session for an opening number. Whatever stood in the three is gone.
+// A fresh session for an opening number. Whatever stood in the three is gone. A type that is not in the table is
+// counted apart.
 #[no_mangle]
 pub extern "C" fn jangsebit_open(
     session: &mut Session,
@@ -56,10 +61,25 @@ pub extern "C" fn jangsebit_open(
     number: u32,
 )
     requires { ⌜ Sized (now room) (now window) ⌝ }
-    ensures opened { λ _. ⌜ held (now (session .exit)) (now (room .exit)) (now (window .exit)) ≡ rep (opened feed number) ⌝ }
+    ensures opened { λ _. ⌜ held (now (session .exit)) (now (room .exit)) (now (window .exit)) ≡ rep (opened (fresh Default) number) ⌝ }
     ensures rule { λ _. ⌜ Ruled (held (now (session .exit)) (now (room .exit)) (now (window .exit))) ⌝ }
 {
     *session = taking::open(room, window, number);
+}
+
+// The same under the strict rule: a type that is not in the table is fault 1.
+#[no_mangle]
+pub extern "C" fn jangsebit_open_strict(
+    session: &mut Session,
+    room: &mut Room,
+    window: &mut Window,
+    number: u32,
+)
+    requires { ⌜ Sized (now room) (now window) ⌝ }
+    ensures opened { λ _. ⌜ held (now (session .exit)) (now (room .exit)) (now (window .exit)) ≡ rep (opened (fresh Strict) number) ⌝ }
+    ensures rule { λ _. ⌜ Ruled (held (now (session .exit)) (now (room .exit)) (now (window .exit))) ⌝ }
+{
+    *session = taking::open_strict(room, window, number);
 }
 
 // The first packets of the lent bytes, each behind its length of 2 bytes: as many as the count says, or all that there

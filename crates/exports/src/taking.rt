@@ -6,17 +6,27 @@ use window::places::Window;
 ghost use mathlib.Core.Path.{_≡_};
 ghost use mathlib.Core.Bool.{cond};
 ghost use Rattle.merge.specs.State.{opened};
-ghost use Rattle.session.specs.Meaning.{feed, held, rep, Ruled, Sized};
+ghost use Rattle.book.specs.Tables.{fresh};
+ghost use Rattle.book.specs.declared.tables.OpeningRule.the-variants.{Default, Strict};
+ghost use Rattle.session.specs.Meaning.{held, rep, Ruled, Sized};
 ghost use Rattle.exports.specs.Handed.{planOf, toldOf};
 ghost use Rattle.single.specs.Over.{over};
 
 // A fresh session.
 pub fn open(room: &mut Room, window: &mut Window, number: u32) -> Session
     requires { ⌜ Sized (now room) (now window) ⌝ }
-    ensures opened { λ r. ⌜ held r (now (room .exit)) (now (window .exit)) ≡ rep (opened feed number) ⌝ }
+    ensures opened { λ r. ⌜ held r (now (room .exit)) (now (window .exit)) ≡ rep (opened (fresh Default) number) ⌝ }
     ensures rule { λ r. ⌜ Ruled (held r (now (room .exit)) (now (window .exit))) ⌝ }
 {
     Session::open(number, room, window)
+}
+
+pub fn open_strict(room: &mut Room, window: &mut Window, number: u32) -> Session
+    requires { ⌜ Sized (now room) (now window) ⌝ }
+    ensures opened { λ r. ⌜ held r (now (room .exit)) (now (window .exit)) ≡ rep (opened (fresh Strict) number) ⌝ }
+    ensures rule { λ r. ⌜ Ruled (held r (now (room .exit)) (now (window .exit))) ⌝ }
+{
+    Session::open_strict(number, room, window)
 }
 
 // What a call takes: whether the bytes are one packet, how many packets are due, and whether the answers fit.

@@ -11,9 +11,9 @@ use Rattle.merge.specs.Promise.{Inv, Demand3, Fits, Judged, Rule}
 use Rattle.merge.proofs.Rule.{opened-inv, keep-inv, apply-inv}
 use Rattle.merge.proofs.Lowest.{next-below, apply-enough, apply-lowest, apply-moves, apply-settles, keep-past}
 
-module _ {Msg Table : Type 0} {feed : Feed Msg Table} {W s : ℕ} {h : List (Packet Msg)} where
+module _ {Msg Table : Type 0} {feed : Feed Msg Table} {start : Table} {W s : ℕ} {h : List (Packet Msg)} where
   -- The rule says all that demand 3 asks.
-  pub rule-demand3 : {x : State Msg Table} → Inv feed W s h x → Demand3 feed s h x
+  pub rule-demand3 : {x : State Msg Table} → Inv feed W start s h x → Demand3 feed start s h x
   rule-demand3 rule =
       record {
         from = rule .from;
@@ -28,7 +28,7 @@ joined-append h none l = ap (λ g. g ++ l) (append-nil h)
 joined-append h (some p) l = append-assoc h (p ∷ []) l
 
 module _ {Handed Msg Table : Type 0} (ch : Channel Handed Msg Table) (s : ℕ) where
-  pub opened-rule : Rule ch s [] (opened (ch .feed) s)
+  pub opened-rule : {start : Table} → Rule ch start s [] (opened start s)
   opened-rule = opened-inv (ch .feed) (ch .window) s
 
   -- A refused packet leaves the session as it was.
@@ -72,56 +72,56 @@ module _ {Handed Msg Table : Type 0} (ch : Channel Handed Msg Table) (s : ℕ) w
       one none e = ap (takeIf ch x) e ∙ sym (ap (keptIf x) e)
       one (some p) e = ap (takeIf ch x) e ∙ sym (whole (keep x p)) ∙ ap (λ (o : Option (Packet Msg)). applySome ch (ch .window) (keptIf x o)) (sym e)
 
-  module _ (judged : Judged ch) where
+  module _ {start : Table} (judged : Judged ch) where
     kept-rule : {h : List (Packet Msg)} {x : State Msg Table} (o : Option (Packet Msg))
-        → ((p : Packet Msg) → o ≡ some p → Fits (ch .window) x p) → Rule ch s h x → Rule ch s (h ++ joined o []) (keptIf x o)
+        → ((p : Packet Msg) → o ≡ some p → Fits (ch .window) x p) → Rule ch start s h x → Rule ch start s (h ++ joined o []) (keptIf x o)
     unfolding keptIf
-    kept-rule {h} {x} none fits rule = subst (λ (l : List (Packet Msg)). Rule ch s l x) (sym (append-nil h)) rule
+    kept-rule {h} {x} none fits rule = subst (λ (l : List (Packet Msg)). Rule ch start s l x) (sym (append-nil h)) rule
     kept-rule (some p) fits rule = keep-inv (ch .feed) (ch .window) s rule p (fits p refl)
 
     -- A call keeps the rule; its packet, if it brings one, is the last of the history.
-    pub callOne-rule : {h : List (Packet Msg)} {x : State Msg Table} (c : Call Handed) → Rule ch s h x
-        → Rule ch s (h ++ joined (broughtBy ch x c) []) (callOne ch x c)
+    pub callOne-rule : {h : List (Packet Msg)} {x : State Msg Table} (c : Call Handed) → Rule ch start s h x
+        → Rule ch start s (h ++ joined (broughtBy ch x c) []) (callOne ch x c)
     unfolding callOne keepOne applySome
     callOne-rule {x = x} (keeping b) rule = kept-rule (ch .judge x b) (judged .fits x b) rule
     callOne-rule {h} {x} (applying c) rule =
-        subst (λ (l : List (Packet Msg)). Rule ch s l (applyUpTo (ch .feed) (min c (ch .window)) x)) (sym (append-nil h))
+        subst (λ (l : List (Packet Msg)). Rule ch start s l (applyUpTo (ch .feed) (min c (ch .window)) x)) (sym (append-nil h))
         (apply-inv (ch .feed) (ch .window) s (min c (ch .window)) rule)
 
-    pub callAll-rule : (cs : List (Call Handed)) {h : List (Packet Msg)} {x : State Msg Table} → Rule ch s h x
-        → Rule ch s (h ++ accepted ch x cs) (callAll ch x cs)
+    pub callAll-rule : (cs : List (Call Handed)) {h : List (Packet Msg)} {x : State Msg Table} → Rule ch start s h x
+        → Rule ch start s (h ++ accepted ch x cs) (callAll ch x cs)
     unfolding callAll accepted
-    callAll-rule [] {h} {x} rule = subst (λ (l : List (Packet Msg)). Rule ch s l x) (sym (append-nil h)) rule
+    callAll-rule [] {h} {x} rule = subst (λ (l : List (Packet Msg)). Rule ch start s l x) (sym (append-nil h)) rule
     callAll-rule (c ∷ cs) {h} {x} rule =
-        subst (λ (l : List (Packet Msg)). Rule ch s l (callAll ch (callOne ch x c) cs))
+        subst (λ (l : List (Packet Msg)). Rule ch start s l (callAll ch (callOne ch x c) cs))
         (joined-append h (broughtBy ch x c) (accepted ch (callOne ch x c) cs))
         (callAll-rule cs (callOne-rule c rule))
 
     -- Demand 3, for all sequences and so after each call of each of them.
-    pub demand3 : (cs : List (Call Handed)) → Demand3 (ch .feed) s (accepted ch (opened (ch .feed) s) cs) (callAll ch (opened (ch .feed) s) cs)
+    pub demand3 : (cs : List (Call Handed)) → Demand3 (ch .feed) start s (accepted ch (opened start s) cs) (callAll ch (opened start s) cs)
     demand3 cs = rule-demand3 (callAll-rule cs opened-rule)
 
     -- The applying call moves next by the smaller of its count and what is left up to the lowest number not carried.
-    pub apply-some-moves : {h : List (Packet Msg)} {x : State Msg Table} (c : ℕ) {n : ℕ} → Rule ch s h x → Lowest s h n
+    pub apply-some-moves : {h : List (Packet Msg)} {x : State Msg Table} (c : ℕ) {n : ℕ} → Rule ch start s h x → Lowest s h n
         → (applySome ch c x) .next ≡ x .next + min c (n - x .next)
     unfolding applySome
     apply-some-moves {x = x} c rule low =
         ap (λ (y : State Msg Table). y .next) (apply-enough (ch .feed) c (ch .window) x (apply-settles rule)) ∙ apply-moves rule c low
 
     -- An accepted packet that starts at or below next and is kept moves the lowest number not carried past its last number; next stands.
-    pub keep-moves : {h : List (Packet Msg)} {x : State Msg Table} (b : Handed) {p : Packet Msg} {n : ℕ} → Rule ch s h x
+    pub keep-moves : {h : List (Packet Msg)} {x : State Msg Table} (b : Handed) {p : Packet Msg} {n : ℕ} → Rule ch start s h x
         → ch .judge x b ≡ some p → p .first ≤ x .next → Lowest s (h ++ joined (ch .judge x b) []) n → endOf p ≤ n
     keep-moves {h} {x} b {p} {n} rule e start low =
         keep-past rule p (judged .fits x b p e) start (subst (λ (o : Option (Packet Msg)). Lowest s (h ++ joined o []) n) e low)
 
     -- Taken, it moves next too: nothing is then left to apply.
-    pub take-lowest : {h : List (Packet Msg)} {x : State Msg Table} (b : Handed) {p : Packet Msg} → Rule ch s h x
+    pub take-lowest : {h : List (Packet Msg)} {x : State Msg Table} (b : Handed) {p : Packet Msg} → Rule ch start s h x
         → ch .judge x b ≡ some p → Lowest s (h ++ (p ∷ [])) ((takeOne ch x b) .next)
     unfolding takeOne takeIf
     take-lowest {h} {x} b {p} rule e =
         subst (λ (o : Option (Packet Msg)). Lowest s (h ++ (p ∷ [])) ((takeIf ch x o) .next)) (sym e)
         (apply-lowest (keep-inv (ch .feed) (ch .window) s rule p (judged .fits x b p e)))
 
-    pub take-past : {h : List (Packet Msg)} {x : State Msg Table} (b : Handed) {p : Packet Msg} → Rule ch s h x
+    pub take-past : {h : List (Packet Msg)} {x : State Msg Table} (b : Handed) {p : Packet Msg} → Rule ch start s h x
         → ch .judge x b ≡ some p → p .first ≤ x .next → endOf p ≤ (takeOne ch x b) .next
     take-past b {p} rule e start = keep-past rule p (judged .fits _ b p e) start (take-lowest b rule e)

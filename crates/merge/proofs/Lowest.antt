@@ -50,7 +50,7 @@ module _ {Msg Table : Type 0} (feed : Feed Msg Table) where
       go none e more = subst (Went (suc c) x) (sym (stuck c e)) (stopped (omega arith) (omega arith) e)
       go (some m) e more = went-more refl (more (step feed x (some m)))
 
-module _ {Msg Table : Type 0} {feed : Feed Msg Table} {W s : ℕ} {h : List (Packet Msg)} {x : State Msg Table} (inv : Inv feed W s h x) where
+module _ {Msg Table : Type 0} {feed : Feed Msg Table} {start : Table} {W s : ℕ} {h : List (Packet Msg)} {x : State Msg Table} (inv : Inv feed W start s h x) where
   -- Next never stands above the lowest number not carried, and where nothing waits at next, it is that number.
   pub next-below : {n : ℕ} → Lowest s h n → x .next ≤ n
   next-below low = below (inv .passed) low
@@ -66,7 +66,7 @@ module _ {Msg Table : Type 0} {feed : Feed Msg Table} {W s : ℕ} {h : List (Pac
   pub front-free : Lowest s h (x .next) → x .waiting (x .next) ≡ none
   front-free low = inv .waits (x .next) (omega arith) ∙ told-none (first-told h (x .next)) (low .missing)
 
-module _ {Msg Table : Type 0} {feed : Feed Msg Table} {W s : ℕ} {h : List (Packet Msg)} {x : State Msg Table} (inv : Inv feed W s h x) where
+module _ {Msg Table : Type 0} {feed : Feed Msg Table} {start : Table} {W s : ℕ} {h : List (Packet Msg)} {x : State Msg Table} (inv : Inv feed W start s h x) where
   -- All that waits lies within the window, so applying up to W leaves nothing that could be applied.
   pub apply-settles : (applyUpTo feed W x) .waiting ((applyUpTo feed W x) .next) ≡ none
   apply-settles = go (went feed W x)
@@ -74,7 +74,7 @@ module _ {Msg Table : Type 0} {feed : Feed Msg Table} {W s : ℕ} {h : List (Pac
       y : State Msg Table
       y = applyUpTo feed W x
 
-      after : Inv feed W s h y
+      after : Inv feed W start s h y
       after = apply-inv feed W s W inv
 
       go : Went W x y → y .waiting (y .next) ≡ none
@@ -120,7 +120,7 @@ module _ {Msg Table : Type 0} (feed : Feed Msg Table) where
       ap (λ (n : ℕ). applyUpTo feed n x) e
       ∙ sym (ap (λ (n : ℕ). applyUpTo feed n x) f ∙ apply-more most (c - most) x ∙ stuck feed (c - most) settles))
 
-module _ {Msg Table : Type 0} {feed : Feed Msg Table} {W s : ℕ} {h : List (Packet Msg)} {x : State Msg Table} (inv : Inv feed W s h x) where
+module _ {Msg Table : Type 0} {feed : Feed Msg Table} {start : Table} {W s : ℕ} {h : List (Packet Msg)} {x : State Msg Table} (inv : Inv feed W start s h x) where
   -- What waits lies below end, so a count that reaches end leaves nothing that could be applied.
   pub reach-settles : (c : ℕ) → x .end ≤ x .next + c → Settles feed c x
   reach-settles c far = go (went feed c x)
@@ -128,7 +128,7 @@ module _ {Msg Table : Type 0} {feed : Feed Msg Table} {W s : ℕ} {h : List (Pac
       y : State Msg Table
       y = applyUpTo feed c x
 
-      after : Inv feed W s h y
+      after : Inv feed W start s h y
       after = apply-inv feed W s c inv
 
       none-there : (o : Option Msg) → ((m : Msg) → o ≡ some m → ⊥) → o ≡ none
@@ -146,7 +146,7 @@ module _ {Msg Table : Type 0} {feed : Feed Msg Table} {W s : ℕ} {h : List (Pac
       y : State Msg Table
       y = applyUpTo feed c x
 
-      after : Inv feed W s h y
+      after : Inv feed W start s h y
       after = apply-inv feed W s c inv
 
       go : Went c x y → y .next ≡ x .next + min c (n - x .next)
@@ -187,7 +187,7 @@ module _ {Msg : Type 0} where
           }
       go false e more = record { low = omega arith; high = omega arith; waits = λ j lo hi. absurd (omega arith); free = λ l. there-none (waiting k) e }
 
-module _ {Msg Table : Type 0} {feed : Feed Msg Table} {W s : ℕ} {h : List (Packet Msg)} {x : State Msg Table} (inv : Inv feed W s h x) where
+module _ {Msg Table : Type 0} {feed : Feed Msg Table} {start : Table} {W s : ℕ} {h : List (Packet Msg)} {x : State Msg Table} (inv : Inv feed W start s h x) where
   -- The first number from next on that does not wait is the lowest that was not carried.
   pub lowest-in : Lowest s h (lowestIn W x)
   unfolding lowestIn

@@ -14,8 +14,8 @@ use Rattle.merge.proofs.Copies.{told-yes, copy-none, first-told, carrie
 use Rattle.merge.proofs.Tables.{tables-agree, tables-none, tables-more}
 use Rattle.merge.proofs.Clauses.{kept-old, kept-new, kept-none, freed-next, freed-other}
 
-module _ {Msg Table : Type 0} (feed : Feed Msg Table) (W s : ℕ) where
-  pub opened-inv : Inv feed W s [] (opened feed s)
+module _ {Msg Table : Type 0} (feed : Feed Msg Table) {start : Table} (W s : ℕ) where
+  pub opened-inv : Inv feed W start s [] (opened start s)
   unfolding opened firstCopy largestEnd
   opened-inv =
       record {
@@ -24,12 +24,12 @@ module _ {Msg Table : Type 0} (feed : Feed Msg Table) (W s : ℕ) where
         old = λ k lo. refl;
         waits = λ k hi. refl;
         near = λ k hi. refl;
-        tables = sym (tables-none feed s []);
+        tables = sym (tables-none feed start s []);
         end = refl;
       }
 
-  module _ {h : List (Packet Msg)} {x : State Msg Table} (inv : Inv feed W s h x) where
-    pub keep-inv : (p : Packet Msg) → Fits W x p → Inv feed W s (h ++ (p ∷ [])) (keep x p)
+  module _ {h : List (Packet Msg)} {x : State Msg Table} (inv : Inv feed W start s h x) where
+    pub keep-inv : (p : Packet Msg) → Fits W x p → Inv feed W start s (h ++ (p ∷ [])) (keep x p)
     unfolding keep
     keep-inv p fits =
         record {
@@ -42,7 +42,7 @@ module _ {Msg Table : Type 0} (feed : Feed Msg Table) (W s : ℕ) where
           near = λ k hi. kept-none x p k (copy-none p k λ c. omega (arith, fits k c)) ∙ inv .near k hi;
           tables =
               inv .tables
-              ∙ sym (tables-agree feed s (x .next) (h ++ (p ∷ [])) h λ k lo hi. first-stays h p k (inv .passed k lo hi));
+              ∙ sym (tables-agree feed start s (x .next) (h ++ (p ∷ [])) h λ k lo hi. first-stays h p k (inv .passed k lo hi));
           end = ap (λ (e : ℕ). max e (endOf p)) (inv .end) ∙ sym (end-last s h p);
         }
 
@@ -50,7 +50,7 @@ module _ {Msg Table : Type 0} (feed : Feed Msg Table) (W s : ℕ) where
     front : {o : Option Msg} → x .waiting (x .next) ≡ o → firstCopy h (x .next) ≡ o
     front e = sym (inv .waits (x .next) (omega arith)) ∙ e
 
-    pub step-inv : (o : Option Msg) → x .waiting (x .next) ≡ o → Inv feed W s h (step feed x o)
+    pub step-inv : (o : Option Msg) → x .waiting (x .next) ≡ o → Inv feed W start s h (step feed x o)
     unfolding step
     step-inv none e = inv
     step-inv (some m) e =
@@ -73,13 +73,13 @@ module _ {Msg Table : Type 0} (feed : Feed Msg Table) (W s : ℕ) where
           tables =
               ap (λ (t : Table). feed .apply t (x .next) m) (inv .tables)
               ∙ sym
-              (tables-more feed s (x .next) h (inv .from)
-              ∙ ap (applied feed (tablesOf feed s (x .next) h) (x .next)) (front e));
+              (tables-more feed start s (x .next) h (inv .from)
+              ∙ ap (applied feed (tablesOf feed start s (x .next) h) (x .next)) (front e));
           end = inv .end;
         }
 
-  pub apply-inv : (c : ℕ) {h : List (Packet Msg)} {x : State Msg Table} → Inv feed W s h x
-      → Inv feed W s h (applyUpTo feed c x)
+  pub apply-inv : (c : ℕ) {h : List (Packet Msg)} {x : State Msg Table} → Inv feed W start s h x
+      → Inv feed W start s h (applyUpTo feed c x)
   unfolding applyUpTo
   apply-inv zero inv = inv
   apply-inv (suc c) {x = x} inv = apply-inv c (step-inv inv (x .waiting (x .next)) refl)

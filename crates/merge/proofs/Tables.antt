@@ -8,9 +8,9 @@ use mathlib.Core.Option.{Option}
 use Rattle.merge.specs.State.{Feed, Packet}
 use Rattle.merge.specs.History.{firstCopy, applied, running, tablesOf}
 
-module _ {Msg Table : Type 0} (feed : Feed Msg Table) where
+module _ {Msg Table : Type 0} (feed : Feed Msg Table) (start : Table) where
   running-agree : (f g : ℕ → Option Msg) (s c : ℕ) → ((k : ℕ) → s ≤ k → k < s + c → f k ≡ g k)
-      → running feed f s c ≡ running feed g s c
+      → running feed start f s c ≡ running feed start g s c
   unfolding running
   running-agree f g s zero same = refl
   running-agree f g s (suc c) same =
@@ -20,25 +20,25 @@ module _ {Msg Table : Type 0} (feed : Feed Msg Table) where
 
   -- The same copies from s to n - 1 give the same tables, whatever else was carried.
   pub tables-copies : (f : ℕ → Option Msg) (s n : ℕ) (h : List (Packet Msg)) → ((k : ℕ) → s ≤ k → k < n → firstCopy h k ≡ f k)
-      → tablesOf feed s n h ≡ running feed f s (n - s)
+      → tablesOf feed start s n h ≡ running feed start f s (n - s)
   unfolding tablesOf
   tables-copies f s n h same = running-agree (firstCopy h) f s (n - s) (λ k lo hi. same k lo (omega arith))
 
   pub tables-agree : (s n : ℕ) (g h : List (Packet Msg)) → ((k : ℕ) → s ≤ k → k < n → firstCopy g k ≡ firstCopy h k)
-      → tablesOf feed s n g ≡ tablesOf feed s n h
+      → tablesOf feed start s n g ≡ tablesOf feed start s n h
   unfolding tablesOf
   tables-agree s n g h same = tables-copies (firstCopy h) s n g same
 
-  pub tables-none : (s : ℕ) (h : List (Packet Msg)) → tablesOf feed s s h ≡ feed .start
+  pub tables-none : (s : ℕ) (h : List (Packet Msg)) → tablesOf feed start s s h ≡ start
   unfolding tablesOf running
-  tables-none s h = let z : s - s ≡ 0 = omega arith in ap (running feed (firstCopy h) s) z
+  tables-none s h = let z : s - s ≡ 0 = omega arith in ap (running feed start (firstCopy h) s) z
 
   -- Number n comes behind those of s to n - 1.
   pub tables-more : (s n : ℕ) (h : List (Packet Msg)) → s ≤ n
-      → tablesOf feed s (n + 1) h ≡ applied feed (tablesOf feed s n h) n (firstCopy h n)
+      → tablesOf feed start s (n + 1) h ≡ applied feed (tablesOf feed start s n h) n (firstCopy h n)
   unfolding tablesOf running
   tables-more s n h lo =
       let one : n + 1 - s ≡ suc (n - s) = omega arith in
       let at : s + (n - s) ≡ n = omega arith in
-      ap (running feed (firstCopy h) s) one
-      ∙ ap (λ (k : ℕ). applied feed (running feed (firstCopy h) s (n - s)) k (firstCopy h k)) at
+      ap (running feed start (firstCopy h) s) one
+      ∙ ap (λ (k : ℕ). applied feed (running feed start (firstCopy h) s (n - s)) k (firstCopy h k)) at

@@ -31,7 +31,7 @@ module _ {Msg : Type 0} where
   end-carried s (here c) = omega (arith, c .high)
   end-carried s (later c) = omega (arith, end-carried s c)
 
-module _ {Msg Table : Type 0} {feed : Feed Msg Table} {W s : ℕ} {h : List (Packet Msg)} {x : State Msg Table} (inv : Inv feed W s h x) where
+module _ {Msg Table : Type 0} {feed : Feed Msg Table} {start : Table} {W s : ℕ} {h : List (Packet Msg)} {x : State Msg Table} (inv : Inv feed W start s h x) where
   pub next-end : x .next ≤ x .end
   next-end =
       by-cases (decLt s (x .next))

@@ -48,18 +48,18 @@ module _ {Msg Table : Type 0} where
   applied feed t k none = t
   applied feed t k (some m) = feed .apply t k m
 
-  -- The tables after the c numbers from s on, one application for each, in rising order.
-  unfoldable pub running : Feed Msg Table → (ℕ → Option Msg) → ℕ → ℕ → Table
-  running feed copies s zero = feed .start
-  running feed copies s (suc c) = applied feed (running feed copies s c) (s + c) (copies (s + c))
+  -- The tables after the c numbers from s on, one application for each, in rising order, from those that the opening starts from.
+  unfoldable pub running : Feed Msg Table → Table → (ℕ → Option Msg) → ℕ → ℕ → Table
+  running feed start copies s zero = start
+  running feed start copies s (suc c) = applied feed (running feed start copies s c) (s + c) (copies (s + c))
 
   -- Demand 3's tables, for the numbers s to n - 1: of each its first copy.
-  unfoldable pub tablesOf : Feed Msg Table → ℕ → ℕ → List (Packet Msg) → Table
-  tablesOf feed s n h = running feed (firstCopy h) s (n - s)
+  unfoldable pub tablesOf : Feed Msg Table → Table → ℕ → ℕ → List (Packet Msg) → Table
+  tablesOf feed start s n h = running feed start (firstCopy h) s (n - s)
 
   -- The same of what was sent: no packet is named, so nothing of the lines can show.
-  unfoldable pub sentTables : Feed Msg Table → (ℕ → Msg) → ℕ → ℕ → Table
-  sentTables feed sent s n = running feed (λ k. some (sent k)) s (n - s)
+  unfoldable pub sentTables : Feed Msg Table → Table → (ℕ → Msg) → ℕ → ℕ → Table
+  sentTables feed start sent s n = running feed start (λ k. some (sent k)) s (n - s)
 
 module _ {Handed Msg Table : Type 0} where
   -- What a call brings: the packet in what it hands in, if the judge lets it pass.

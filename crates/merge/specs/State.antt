@@ -7,9 +7,8 @@ use mathlib.Core.Option.{Option, none, some}
 use lib.Dec.{leb, ltb, eqb}
 use lib.ListN.{length, getElem?}
 
--- A feed: its tables when nothing is applied yet, and what a message does to them under its number.
+-- A feed: what a message does to the tables under its number.
 pub record Feed (Msg Table : Type 0) : Type 0 where
-  pub start : Table
   pub apply : Table → ℕ → Msg → Table
 
 -- A packet: its first message has the number first, each further one the number after.
@@ -64,9 +63,9 @@ countFrom test k zero = 0
 countFrom test k (suc c) = cond (test k) 1 0 + countFrom test (k + 1) c
 
 module _ {Msg Table : Type 0} where
-  -- The fresh session for opening number s.
-  unfoldable pub opened : Feed Msg Table → ℕ → State Msg Table
-  opened feed s = record { next = s; end = s; waiting = λ k. none; tables = feed .start }
+  -- The fresh session for opening number s, with the tables that the opening starts from.
+  unfoldable pub opened : Table → ℕ → State Msg Table
+  opened start s = record { next = s; end = s; waiting = λ k. none; tables = start }
 
   -- What waits under k once p is kept: below next nothing new, and a copy that waits already stays.
   unfoldable pub keptAt : State Msg Table → Packet Msg → ℕ → Option Msg

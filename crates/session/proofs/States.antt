@@ -19,9 +19,11 @@ use Rattle.message.specs.Whole.{Whole}
 use Rattle.book.specs.Applying.{applyOf}
 use Rattle.book.specs.Rule.{Kept, Ready}
 use Rattle.book.specs.Tables as book
-use Rattle.book.specs.Tables.{Tables}
+use Rattle.book.specs.Tables.{Tables, fresh}
+use Rattle.book.specs.declared.tables.OpeningRule.{OpeningRule}
 use Rattle.book_room.specs.Room.{partsOf}
 use Rattle.book_room.proofs.Insides.{insides-in}
+use Rattle.book_room.proofs.Lying.{rule-by}
 use Rattle.book.proofs.Keeping as keeping
 use Rattle.book.proofs.Laws.{counted-next}
 use Rattle.window_taking.specs.Keeping.{Neat, keptBy, windowFor}
@@ -47,7 +49,7 @@ module _ {x : Meaning} (g : Good x) where
 
   pub tables-rep : tablesIn (rep x .session) (rep x .room) ≡ x .tables
   unfolding partsOf
-  tables-rep = λ i. record { orders = keeping.view-rep (x .tables) i .orders; insides = insides-in (x .next) (x .end) (x .tables) (g .sound) i; code = x .tables .code; faults = x .tables .faults }
+  tables-rep = λ i. record { orders = keeping.view-rep (x .tables) i .orders; insides = insides-in (x .next) (x .end) (x .tables) (g .sound) i; code = x .tables .code; faults = x .tables .faults; unlisted = record { rule = rule-by (x .tables .unlisted .rule) i; count = x .tables .unlisted .count } }
 
   pub view-rep : view (rep x) ≡ x
   unfolding partsOf
@@ -58,7 +60,7 @@ module _ {x : Meaning} (g : Good x) where
   waits-below k e = omega (arith, waits-where (g .inv) k e .known, g .top)
 
   pub ready : {m : List ℕ} → x .waiting (x .next) ≡ some m → Ready (book.rep (x .tables)) (x .next) m
-  ready {m} e = record { kept = kept; whole = g .whole (x .next) m e; counted = g .counted; within = waits-below (x .next) e }
+  ready {m} e = record { kept = kept; whole = g .whole (x .next) m e; counted = g .counted; apart = g .apart; within = waits-below (x .next) e }
 
   either : (o o′ : Option (List ℕ)) {m : List ℕ} → ((a : List ℕ) → o ≡ some a → Whole a) → ((a : List ℕ) → o′ ≡ some a → Whole a) → firstThere o o′ ≡ some m → Whole m
   either none o′ {m} h h′ e = h′ m e
@@ -68,11 +70,13 @@ module _ {x : Meaning} (g : Good x) where
   unfolding keep
   good-keep p fits pass =
       record {
+        tables = g .tables;
         start = g .start;
         history = g .history ++ (p ∷ []);
         inv = keep-inv feed 256 (g .start) (g .inv) p fits;
         sound = g .sound;
         counted = g .counted;
+        apart = g .apart;
         whole =
             λ k m e.
             by-cases (decLt k (x .next))
@@ -81,15 +85,22 @@ module _ {x : Meaning} (g : Good x) where
         top = omega (arith, g .top, pass .top);
       }
 
+  counts : {m : List ℕ} → x .waiting (x .next) ≡ some m → (applyOf (x .tables) (x .next) m .faults .count ≤ x .next + 1) × (applyOf (x .tables) (x .next) m .unlisted .count ≤ x .next + 1)
+  counts {m} e =
+      subst (λ (t : Tables). (applyOf t (x .next) m .faults .count ≤ x .next + 1) × (applyOf t (x .next) m .unlisted .count ≤ x .next + 1)) (keeping.view-rep (x .tables))
+      (counted-next (ready e))
+
   pub good-step : {m : List ℕ} → x .waiting (x .next) ≡ some m → Good (step feed x (some m))
   unfolding step
   good-step {m} e =
       record {
+        tables = g .tables;
         start = g .start;
         history = g .history;
         inv = step-inv feed 256 (g .start) (g .inv) (some m) e;
         sound = keeping.sound-apply (x .tables) (g .sound) m (x .next);
-        counted = subst (λ (t : Tables). applyOf t (x .next) m .faults .count ≤ x .next + 1) (keeping.view-rep (x .tables)) (counted-next (ready e));
+        counted = counts e .0;
+        apart = counts e .1;
         whole =
             λ k m′ f.
             by-cases (ℕ-discrete k (x .next))
@@ -98,15 +109,17 @@ module _ {x : Meaning} (g : Good x) where
         top = g .top;
       }
 
-pub good-open : (n : ℕ) → n ≤ 4294967295 → Good (opened feed n)
+pub good-open : (rule : OpeningRule) (n : ℕ) → n ≤ 4294967295 → Good (opened (fresh rule) n)
 unfolding opened
-good-open n small =
+good-open rule n small =
     record {
+      tables = fresh rule;
       start = n;
       history = [];
       inv = opened-inv feed 256 n;
-      sound = keeping.fresh-sound;
+      sound = keeping.fresh-sound rule;
       counted = omega arith;
+      apart = omega arith;
       whole = λ k m e. absurd (Option·none-ne-some _ e);
       top = omega arith;
     }
@@ -162,21 +175,21 @@ pub record Stands (s : Held) : Type 0 where
 pub stands : {s : Held} → Ruled s → Stands s
 stands r =
     record {
-      state = callAll overnight (opened feed (r .number)) (r .calls);
-      good = good-calls (r .calls) (r .bytes) (good-open (r .number) (r .small));
+      state = callAll overnight (opened (fresh (r .rule)) (r .number)) (r .calls);
+      good = good-calls (r .calls) (r .bytes) (good-open (r .rule) (r .number) (r .small));
       same = r .given;
     }
 
 pub meaning : {s : Held} (h : Stands s) → view s ≡ h .state
 meaning h = ap view (h .same) ∙ view-rep (h .good)
 
-pub ruled-rule : {s : Held} (r : Ruled s) → Rule overnight (r .number) (accepted overnight (opened feed (r .number)) (r .calls)) (view s)
+pub ruled-rule : {s : Held} (r : Ruled s) → Rule overnight (fresh (r .rule)) (r .number) (accepted overnight (opened (fresh (r .rule)) (r .number)) (r .calls)) (view s)
 unfolding stands callAll
 ruled-rule r =
-    subst (Rule overnight (r .number) (accepted overnight (opened feed (r .number)) (r .calls))) (sym (meaning (stands r)))
+    subst (Rule overnight (fresh (r .rule)) (r .number) (accepted overnight (opened (fresh (r .rule)) (r .number)) (r .calls))) (sym (meaning (stands r)))
     (callAll-rule overnight (r .number) (overnight-judged feed) (r .calls) (opened-rule overnight (r .number)))
 
-pub ruled-means : {s : Held} (r : Ruled s) → view s ≡ callAll overnight (opened feed (r .number)) (r .calls)
+pub ruled-means : {s : Held} (r : Ruled s) → view s ≡ callAll overnight (opened (fresh (r .rule)) (r .number)) (r .calls)
 unfolding stands
 ruled-means r = meaning (stands r)
 
@@ -194,11 +207,12 @@ take-more (s ∷ ss) ts x = take-more ss ts (takeOne overnight x s)
 pub ruled-calls : {s : Held} → Ruled s → (cs : List (Call (List ℕ))) → CallsBytes cs → Ruled (rep (callAll overnight (view s) cs))
 ruled-calls {s} r cs bytes =
     record {
+      rule = r .rule;
       number = r .number;
       small = r .small;
       calls = r .calls ++ cs;
       bytes = all-more (r .calls) cs (r .bytes) bytes;
-      given = ap rep (ap (λ (x : Meaning). callAll overnight x cs) (ruled-means r) ∙ sym (call-more overnight (r .number) (r .calls) cs (opened feed (r .number))));
+      given = ap rep (ap (λ (x : Meaning). callAll overnight x cs) (ruled-means r) ∙ sym (call-more overnight (r .number) (r .calls) cs (opened (fresh (r .rule)) (r .number))));
     }
 
 -- packets that are taken are kept and applied
@@ -216,6 +230,6 @@ ruled-more {s} r ts bytes =
     subst (λ (x : Meaning). Ruled (rep x)) (sym (take-calls overnight (r .number) (view s) ts))
     (ruled-calls r (callsOf overnight (view s) ts) (taken-bytes ts bytes (view s)))
 
-pub ruled-open : (n : ℕ) → n ≤ 4294967295 → Ruled (rep (opened feed n))
+pub ruled-open : (rule : OpeningRule) (n : ℕ) → n ≤ 4294967295 → Ruled (rep (opened (fresh rule) n))
 unfolding callAll
-ruled-open n small = record { number = n; small = small; calls = []; bytes = tt; given = refl }
+ruled-open rule n small = record { rule = rule; number = n; small = small; calls = []; bytes = tt; given = refl }

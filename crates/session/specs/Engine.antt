@@ -17,7 +17,7 @@ use Rattle.book.specs.Applying.{Naming, names, orderOf}
 use Rattle.book.specs.Lookup.{placeFound}
 use Rattle.book.specs.Rule.{Sound}
 use Rattle.book.specs.Tables as book
-use Rattle.book.specs.Tables.{Book, blank, noOrder}
+use Rattle.book.specs.Tables.{Book, Tables, blank, noOrder}
 use Rattle.book.specs.declared.lookup.Found.the-variants as found
 use Rattle.book.specs.declared.tables.Order.{Order}
 use Rattle.book_room.specs.Arms.{Told, after, namedIn}
@@ -35,11 +35,13 @@ use Rattle.session.specs.declared.touching.Touch.{Touch}
 
 -- what the meanings have that an opening and packets give, also between two messages
 pub record Good (x : Meaning) : Type 0 where
+  pub tables : Tables
   pub start : ℕ
   pub history : List (Packet (List ℕ))
-  pub inv : Inv feed 256 start history x
+  pub inv : Inv feed 256 tables start history x
   pub sound : Sound (x .tables)
   pub counted : x .tables .faults .count ≤ x .next
+  pub apart : x .tables .unlisted .count ≤ x .next
   pub whole : (k : ℕ) (m : List ℕ) → x .waiting k ≡ some m → Whole m
   pub top : x .end ≤ 4294967296
 

@@ -8,11 +8,12 @@ use lib.ListN.{length, getD, take}
 use Rattle.wire.specs.Number.{Bytes}
 use Rattle.merge.specs.State as merge
 use Rattle.merge.specs.State.{Call, Channel, Feed, applying, callAll, keeping, opened}
-use Rattle.book.specs.Applying.{Rule, strict, applyUnder}
+use Rattle.book.specs.Applying.{applyOf}
 use Rattle.book.specs.Tables as book
 use Rattle.book.specs.Tables.{Tables, fresh}
 use Rattle.book.specs.declared.tables.Faults.{Faults}
-use Rattle.book_room.specs.Room.{insidesIn, roomOf}
+use Rattle.book.specs.declared.tables.OpeningRule.{OpeningRule}
+use Rattle.book_room.specs.Room.{insidesIn, roomOf, roomSize, ruleBy}
 use Rattle.window_taking.specs.Keeping.{waitingOf, windowFor}
 use Rattle.window_taking.specs.Taking.{channel}
 use Rattle.session.specs.declared.state.Session.{Session}
@@ -20,12 +21,9 @@ use Rattle.session.specs.declared.state.Session.{Session}
 abbrev pub Meaning : Type 0
 Meaning = merge.State (List ℕ) Tables
 
--- the overnight feed under a rule for unlisted types: empty tables, and what a message does to them under its number
-abbrev pub feedUnder : Rule → Feed (List ℕ) Tables
-feedUnder rule = record { start = fresh; apply = applyUnder rule }
-
+-- the overnight feed: what a message does to the tables under its number
 abbrev pub feed : Feed (List ℕ) Tables
-feed = feedUnder strict
+feed = record { apply = applyOf }
 
 abbrev pub overnight : Channel (List ℕ) (List ℕ) Tables
 overnight = channel feed
@@ -41,7 +39,7 @@ held session room window = record { session = session; room = room; window = win
 
 -- the sizes of what is lent
 pub record Sized (room window : List ℕ) : Type 0 where
-  pub numbers : length room ≡ 2306
+  pub numbers : length room ≡ roomSize
   pub bytes : length window ≡ 32768
 
 -- the one way in which a meaning is held: the orders in their places, next, end and the tables' numbers in the room, and each message
@@ -70,9 +68,23 @@ codeIn room = getD room 4 0
 abbrev pub faultsIn : List ℕ → Faults
 faultsIn room = record { number = getD room 5 0; count = getD room 6 0; reason = getD room 7 0 }
 
+-- the rule that the opening chose for types that are not in the table, and how many messages of such a type were counted apart
+abbrev pub ruleIn : List ℕ → OpeningRule
+ruleIn room = ruleBy (getD room 8 0)
+
+abbrev pub apartIn : List ℕ → ℕ
+apartIn room = getD room 9 0
+
 -- the meaning of what is held
 abbrev pub tablesIn : Session → List ℕ → Tables
-tablesIn s room = record { orders = take (liveIn room) (s .orders); insides = insidesIn room; code = codeIn room; faults = faultsIn room }
+tablesIn s room =
+    record {
+      orders = take (liveIn room) (s .orders);
+      insides = insidesIn room;
+      code = codeIn room;
+      faults = faultsIn room;
+      unlisted = record { rule = ruleIn room; count = apartIn room };
+    }
 
 abbrev pub view : Held → Meaning
 view h =
@@ -94,11 +106,12 @@ CallsBytes [] = Unit {0}
 CallsBytes (keeping s ∷ cs) = Bytes s × CallsBytes cs
 CallsBytes (applying c ∷ cs) = CallsBytes cs
 
--- the rule, over all that a host holds: an opening, at some 32-bit number, and the calls since, packets kept and messages applied, have
--- given it
+-- the rule, over all that a host holds: an opening, at some 32-bit number and by a rule for types that are not in the table, and the
+-- calls since, packets kept and messages applied, have given it
 pub record Ruled (h : Held) : Type 0 where
+  pub rule : OpeningRule
   pub number : ℕ
   pub small : number ≤ 4294967295
   pub calls : List (Call (List ℕ))
   pub bytes : CallsBytes calls
-  pub given : h ≡ rep (callAll overnight (opened feed number) calls)
+  pub given : h ≡ rep (callAll overnight (opened (fresh rule) number) calls)

@@ -10,8 +10,10 @@ use book::asking::no_order_for;
 use book::lookup::Found;
 use book::tables::Faults;
 use book::tables::Inside;
+use book::tables::OpeningRule;
 use book_room::finding::found;
 use book_room::finding::held_at;
+use book_room::room::APART;
 use book_room::room::BACKS;
 use book_room::room::CODE;
 use book_room::room::COUNT;
@@ -24,6 +26,7 @@ use book_room::room::REASON;
 use book_room::room::ROW;
 use book_room::room::ROWS;
 use book_room::room::Room;
+use book_room::unlisted::rule_in;
 use fields::id::IdValue;
 use fields::id::value;
 use fields_rules::good_symbol;
@@ -40,8 +43,9 @@ ghost use mathlib.Core.List.{List};
 ghost use lib.ListN.{length};
 ghost use Rattle.window.specs.Runs.{askedOf, bufferAfter};
 ghost use Rattle.book.specs.Asking.{orderAsked, bestAsked, insideFor};
+ghost use Rattle.book.specs.Tables.{doubtful};
 ghost use Rattle.book_room.specs.Room.{insideAt, insidesIn, symbolBy};
-ghost use Rattle.session.specs.Meaning.{codeIn, endIn, faultsIn, held, nextIn, tablesIn, Ruled};
+ghost use Rattle.session.specs.Meaning.{apartIn, codeIn, endIn, faultsIn, held, nextIn, ruleIn, tablesIn, Ruled};
 ghost use Rattle.session.specs.Asking.{gapFrom, gapsOf, lineIn, lowestNumber};
 ghost use Rattle.session.specs.declared.state.Session.{Session as Table};
 
@@ -83,6 +87,27 @@ pub fn faults(room: &Room) -> Faults
         count: room[COUNT],
         reason: room[REASON],
     }
+}
+
+// A book is doubtful exactly if its count of faults is not 0.
+pub fn doubtful(room: &Room) -> bool
+    ensures { λ r. ⌜ r ≡ doubtful (faultsIn (now (room .entry))) ⌝ }
+{
+    room[COUNT] != 0
+}
+
+// The rule that the opening chose for types that are not in the table.
+pub fn rule(room: &Room) -> OpeningRule
+    ensures { λ r. ⌜ r ≡ ruleIn (now (room .entry)) ⌝ }
+{
+    rule_in(room)
+}
+
+// How many messages of such a type were counted apart; 0 under the strict rule.
+pub fn unlisted(room: &Room) -> u64
+    ensures { λ r. ⌜ r ≡ apartIn (now (room .entry)) ⌝ }
+{
+    room[APART]
 }
 
 pub fn order(session: Session, room: &Room, id: [u8; 14]) -> OrderReply

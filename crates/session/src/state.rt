@@ -9,10 +9,12 @@ use window::places::Window;
 ghost use mathlib.Core.Path.{_≡_};
 ghost use lib.ListN.{length, replicate};
 ghost use Rattle.merge.specs.State.{opened};
-ghost use Rattle.session.specs.Meaning.{feed, held, rep, Ruled, Sized};
+ghost use Rattle.book.specs.Tables.{fresh};
+ghost use Rattle.book.specs.declared.tables.OpeningRule.the-variants.{Default, Strict};
+ghost use Rattle.session.specs.Meaning.{held, rep, Ruled, Sized};
 
 // The records of the live orders. All else is lent: the room of numbers (next, end, the counts, the code,
-// the faults, the look-ups, the insides) and the window of messages that wait for their turn. A host holds
+// the faults, the rule, the look-ups, the insides) and the window of messages that wait for their turn. A host holds
 // the three together and lends the same room and window with each call.
 #[repr(C)]
 pub struct Session {
@@ -41,10 +43,10 @@ impl Session {
 
     pub const PLACES: usize = places::BYTES;
 
-    // Whatever stood in the room and the window is gone.
+    // Whatever stood in the room and the window is gone. A type that is not in the table is counted apart.
     pub fn open(number: u32, room: &mut Room, window: &mut Window) -> Self
         requires { ⌜ Sized (now room) (now window) ⌝ }
-        ensures opened { λ r. ⌜ held r (now (room .exit)) (now (window .exit)) ≡ rep (opened feed number) ⌝ }
+        ensures opened { λ r. ⌜ held r (now (room .exit)) (now (window .exit)) ≡ rep (opened (fresh Default) number) ⌝ }
         ensures rule { λ r. ⌜ Ruled (held r (now (room .exit)) (now (window .exit))) ⌝ }
     {
         let order = no_order();
@@ -56,6 +58,17 @@ impl Session {
         Session {
             orders: [order; Self::ORDERS],
         }
+    }
+
+    // The same under the strict rule: a type that is not in the table is fault 1.
+    pub fn open_strict(number: u32, room: &mut Room, window: &mut Window) -> Self
+        requires { ⌜ Sized (now room) (now window) ⌝ }
+        ensures opened { λ r. ⌜ held r (now (room .exit)) (now (window .exit)) ≡ rep (opened (fresh Strict) number) ⌝ }
+        ensures rule { λ r. ⌜ Ruled (held r (now (room .exit)) (now (window .exit))) ⌝ }
+    {
+        let session = Self::open(number, room, window);
+        room[room::RULE] = 1;
+        session
     }
 }
 

@@ -9,7 +9,10 @@ use lib.ListN.{length}
 use Rattle.wire.specs.Number.{Bytes}
 use Rattle.merge.specs.State as merge
 use Rattle.merge.specs.State.{Call, applySome, applying, callsOf, keepOne, keeping, keepsOf, takeOne}
-use Rattle.session.specs.Meaning.{Held, Ruled, feed, held, overnight, rep, view}
+use Rattle.book.specs.Tables.{fresh}
+use Rattle.book.specs.declared.tables.OpeningRule.{OpeningRule}
+use Rattle.book.specs.declared.tables.OpeningRule.the-variants.{Default, Strict}
+use Rattle.session.specs.Meaning.{Held, Ruled, held, overnight, rep, view}
 use Rattle.session.specs.Bursts.{answerOf, appliedBy, burstOf, handedIn}
 use Rattle.session.specs.Asking.{lineIn}
 use Rattle.session_keeping.specs.Keeping.{burstKept, keptOf}
@@ -18,6 +21,7 @@ use Rattle.session_keeping.specs.Passing.{passOn, passedIn}
 use Rattle.session.specs.declared.packets.Answer.{Answer}
 use Rattle.session.specs.declared.state.Session.{Session}
 use Rattle.session.proofs.state.Session.open.Reads as session-open
+use Rattle.session.proofs.state.Session.open_strict.Reads as session-open-strict
 use Rattle.session.proofs.packets.take.Reads as session-take
 use Rattle.session.proofs.packets.burst.Reads as session-burst
 use Rattle.session.proofs.packets.apply.Reads as session-apply
@@ -25,9 +29,10 @@ use Rattle.session_keeping.proofs.keeping.keep.Reads as session-keep
 use Rattle.session_keeping.proofs.keeping.keep_burst.Reads as session-keeps
 use Rattle.session_keeping.proofs.passing.pass.Reads as session-pass
 
--- an opening at a number gave the session, the room and the window
-pub data Opened : ℕ → Held → Type 0 where
-  opened : (κs : _) (a : _) (r : _) (later : _) → session-open.Post κs a r later → Opened (a .0) (held r (now (later .1 .0)) (now (later .1 .1 .0)))
+-- an opening by a rule, at a number, gave the session, the room and the window
+pub data Opened : OpeningRule → ℕ → Held → Type 0 where
+  opened : (κs : _) (a : _) (r : _) (later : _) → session-open.Post κs a r later → Opened Default (a .0) (held r (now (later .1 .0)) (now (later .1 .1 .0)))
+  opened-strict : (κs : _) (a : _) (r : _) (later : _) → session-open-strict.Post κs a r later → Opened Strict (a .0) (held r (now (later .1 .0)) (now (later .1 .1 .0)))
 
 -- taking a packet, with these held before, gave this answer, with those held behind it
 pub data Took : Held → List ℕ → Held → Answer → Type 0 where
@@ -58,26 +63,27 @@ pub data AppliedSome : Held → ℕ → Held → ℕ → Type 0 where
   applied-some : (κs : _) (a : _) (r : _) (later : _) → session-apply.Post κs a r later
       → AppliedSome (held (a .0) (now (a .1 .0)) (now (a .1 .1 .0))) (a .1 .1 .1 .0) (held (r .session) (now (later .1 .0)) (now (later .1 .1 .0))) (r .count)
 
--- opened at n, with these calls since, in this order, each packet kept and each count applied: a case for each call of a host
-pub data Given (n : ℕ) : List (Call (List ℕ)) → Held → Type 0 where
-  opening : {s : Held} → Opened n s → Given n [] s
-  keeps : {calls : List (Call (List ℕ))} {s t : Held} {packet : List ℕ} {kept : Kept} → Given n calls s → Bytes packet → KeptOne s packet t kept
-      → Given n (calls ++ (keeping packet ∷ [])) t
-  applies : {calls : List (Call (List ℕ))} {s t : Held} {count applied : ℕ} → Given n calls s → AppliedSome s count t applied
-      → Given n (calls ++ (applying count ∷ [])) t
-  taking : {calls : List (Call (List ℕ))} {s t : Held} {packet : List ℕ} {answer : Answer} → Given n calls s → Bytes packet → Took s packet t answer
-      → Given n (calls ++ callsOf overnight (view s) (packet ∷ [])) t
-  bursting : {calls : List (Call (List ℕ))} {s t : Held} {lent : List ℕ} {most room : ℕ} → Given n calls s → Bytes lent → TookAll s lent most room t
-      → Given n (calls ++ callsOf overnight (view s) (handedIn lent most room)) t
-  keeps-many : {calls : List (Call (List ℕ))} {s t : Held} {lent : List ℕ} {most room : ℕ} → Given n calls s → Bytes lent → KeptMany s lent most room t
-      → Given n (calls ++ keepsOf (handedIn lent most room)) t
-  passing : {calls : List (Call (List ℕ))} {s t : Held} {packet : List ℕ} → Given n calls s → Bytes packet → PassedOver s packet t
-      → Given n (calls ++ passedIn (view s) packet) t
+-- opened by a rule at n, with these calls since, in this order, each packet kept and each count applied: a case for each call of a host
+pub data Given (rule : OpeningRule) (n : ℕ) : List (Call (List ℕ)) → Held → Type 0 where
+  opening : {s : Held} → Opened rule n s → Given rule n [] s
+  keeps : {calls : List (Call (List ℕ))} {s t : Held} {packet : List ℕ} {kept : Kept} → Given rule n calls s → Bytes packet → KeptOne s packet t kept
+      → Given rule n (calls ++ (keeping packet ∷ [])) t
+  applies : {calls : List (Call (List ℕ))} {s t : Held} {count applied : ℕ} → Given rule n calls s → AppliedSome s count t applied
+      → Given rule n (calls ++ (applying count ∷ [])) t
+  taking : {calls : List (Call (List ℕ))} {s t : Held} {packet : List ℕ} {answer : Answer} → Given rule n calls s → Bytes packet → Took s packet t answer
+      → Given rule n (calls ++ callsOf overnight (view s) (packet ∷ [])) t
+  bursting : {calls : List (Call (List ℕ))} {s t : Held} {lent : List ℕ} {most room : ℕ} → Given rule n calls s → Bytes lent → TookAll s lent most room t
+      → Given rule n (calls ++ callsOf overnight (view s) (handedIn lent most room)) t
+  keeps-many : {calls : List (Call (List ℕ))} {s t : Held} {lent : List ℕ} {most room : ℕ} → Given rule n calls s → Bytes lent → KeptMany s lent most room t
+      → Given rule n (calls ++ keepsOf (handedIn lent most room)) t
+  passing : {calls : List (Call (List ℕ))} {s t : Held} {packet : List ℕ} → Given rule n calls s → Bytes packet → PassedOver s packet t
+      → Given rule n (calls ++ passedIn (view s) packet) t
 
 -- ---- what the contracts say
 
-pub opened-is : {n : ℕ} {s : Held} → Opened n s → s ≡ rep (merge.opened feed n)
+pub opened-is : {rule : OpeningRule} {n : ℕ} {s : Held} → Opened rule n s → s ≡ rep (merge.opened (fresh rule) n)
 opened-is (opened κs a r later post) = post .0
+opened-is (opened-strict κs a r later post) = post .0
 
 pub took-is : {s t : Held} {packet : List ℕ} {answer : Answer} → Took s packet t answer → t ≡ rep (takeOne overnight (view s) packet)
 took-is (took κs a r later post) = post .0
@@ -107,8 +113,9 @@ pub applied-told : {s t : Held} {count applied : ℕ} → AppliedSome s count t 
 applied-told (applied-some κs a r later post) = post .1 .0
 
 -- each call keeps the rule: that is a part of its contract
-pub given-ruled : {n : ℕ} {calls : List (Call (List ℕ))} {s : Held} → Given n calls s → Ruled s
+pub given-ruled : {rule : OpeningRule} {n : ℕ} {calls : List (Call (List ℕ))} {s : Held} → Given rule n calls s → Ruled s
 given-ruled (opening (opened κs a r later post)) = post .1
+given-ruled (opening (opened-strict κs a r later post)) = post .1
 given-ruled (keeps g bytes (kept-one κs a r later post session)) = post .1 .1 session (given-ruled g)
 given-ruled (applies g (applied-some κs a r later post)) = post .1 .1
 given-ruled (taking g bytes (took κs a r later post)) = post .1 .1

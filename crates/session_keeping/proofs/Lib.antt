@@ -4,3 +4,4 @@ pub mod Passes
 pub mod Given
 pub mod Demand3
 pub mod Promises
+pub mod Standing

@@ -1,5 +1,4 @@
--- What taking, keeping and applying promise, of every session that keeps the rule, each for a call by its own contract; and
--- what stands until the next opening.
+-- What taking, keeping and applying promise, of every session that keeps the rule, each for a call by its own contract.
 -- Assumes nothing.
 use mathlib.Core.Path.{_≡_, refl, ap, _∙_, sym, subst}
 use mathlib.Core.Bool.{Bool, true, false, cond}
@@ -25,11 +24,6 @@ use Rattle.window_taking.specs.Keeping.{freshBy}
 use Rattle.window_taking.proofs.Keeps.{same-fresh}
 use Rattle.session.specs.Asking.{lineIn}
 use Rattle.window_taking.proofs.Accepted.{length-frames, never-nine, overnight-judged, overnight-past}
-use Rattle.book.specs.Applying.{applyOf, applyUnder, carried, effectIn, effectOf, faulted, messageIn}
-use Rattle.book.specs.Tables.{Tables}
-use Rattle.book.specs.declared.tables.Faults.{Faults}
-use Rattle.book.specs.declared.deciding.Effect.{Effect}
-use Rattle.book.specs.declared.deciding.Effect.the-variants.{Put, Replace, Remove, Renew, Enter, Record, Unchanged, Fault}
 use Rattle.session.specs.Meaning.{Held, Ruled, Meaning, feed, overnight, rep, view}
 use Rattle.session.specs.Bursts.{answered, appliedOf, refusalOf}
 use Rattle.session.specs.declared.packets.Answer.the-variants.{Applied, Refused}
@@ -41,8 +35,7 @@ use Rattle.session_keeping.specs.Keeping.{keptAnswer, keptOf}
 use Rattle.session_keeping.specs.declared.keeping.Kept as keeping
 use Rattle.session_keeping.specs.declared.keeping.Kept.{Kept}
 use Rattle.session_keeping.specs.declared.keeping.Kept.the-variants as kept
-use Rattle.session_keeping.proofs.Demand3.{means}
-use Rattle.session_keeping.proofs.Given.{AppliedSome, Given, KeptOne, Took, applied-is, applied-told, kept-one-is, kept-one-told, took-answer, took-is}
+use Rattle.session_keeping.proofs.Given.{AppliedSome, KeptOne, Took, applied-is, applied-told, kept-one-is, kept-one-told, took-answer, took-is}
 
 -- ---- what an answer tells
 
@@ -282,73 +275,3 @@ module _ {s t : Held} {count applied : ℕ} (rule : Ruled s) (call : AppliedSome
       apply-some-moves overnight (rule .number) (overnight-judged feed) count (ruled-rule rule) (lowest-in (ruled-rule rule)) in
       let told : applied ≡ applySome overnight count (view s) .next - view s .next = applied-told call in
       (omega (arith, told, moves), omega (arith, told, moves, ap (λ (x : Meaning). x .next) behind))
-
--- ---- what stands until the next opening
-
--- the first fault's number and reason stay, and the count never falls
-pub record Stood (before after : Faults) : Type 0 where
-  pub count : before .count ≤ after .count
-  pub first : 0 < before .count → (after .number ≡ before .number) × (after .reason ≡ before .reason)
-
-stood : (f : Faults) → Stood f f
-stood f = record { count = omega arith; first = λ any. (refl, refl) }
-
-stood-more : {f g h : Faults} → Stood f g → Stood g h → Stood f h
-stood-more p q =
-    record {
-      count = omega (arith, p .count, q .count);
-      first = λ any. let a = p .first any in let b = q .first (omega (arith, p .count)) in (b .0 ∙ a .0, b .1 ∙ a .1);
-    }
-
-fault-stood : (f : Faults) (number reason : ℕ) → Stood f (faulted f number reason)
-unfolding faulted
-fault-stood f number reason = go (eqb (f .count) 0) refl
-  where
-    go : (b : Bool) → eqb (f .count) 0 ≡ b → Stood f (cond b (record { number = number; count = 1; reason = reason }) (record { number = f .number; count = f .count + 1; reason = f .reason }))
-    go true e = record { count = omega (arith, eqb-true (f .count) 0 e); first = λ any. absurd (omega (arith, eqb-true (f .count) 0 e)) }
-    go false e = record { count = omega arith; first = λ any. (refl, refl) }
-
-apply-stood : (t : Tables) (number : ℕ) (s : List ℕ) → Stood (t .faults) (applyOf t number s .faults)
-unfolding applyUnder effectOf
-apply-stood t number s = go (effectIn t s)
-  where
-    go : (e : Effect) → Stood (t .faults) (carried t number (messageIn s) e .faults)
-    go Put = stood (t .faults)
-    go (Replace place shares price) = stood (t .faults)
-    go (Remove place) = stood (t .faults)
-    go (Renew place) = stood (t .faults)
-    go Enter = stood (t .faults)
-    go (Record code) = stood (t .faults)
-    go Unchanged = stood (t .faults)
-    go (Fault reason) = fault-stood (t .faults) number reason
-
-step-stood : (x : Meaning) (o : Option (List ℕ)) → Stood (x .tables .faults) (step feed x o .tables .faults)
-unfolding step
-step-stood x none = stood (x .tables .faults)
-step-stood x (some m) = apply-stood (x .tables) (x .next) m
-
-up-stood : (c : ℕ) (x : Meaning) → Stood (x .tables .faults) (applyUpTo feed c x .tables .faults)
-unfolding applyUpTo
-up-stood zero x = stood (x .tables .faults)
-up-stood (suc c) x = stood-more (step-stood x (x .waiting (x .next))) (up-stood c (step feed x (x .waiting (x .next))))
-
-call-stood : (x : Meaning) (c : Call (List ℕ)) → Stood (x .tables .faults) (callOne overnight x c .tables .faults)
-unfolding callOne keepOne keptIf keep applySome
-call-stood x (applying count) = up-stood (min count 256) x
-call-stood x (keeping p) = go (judge x p)
-  where
-    go : (o : Option (Packet (List ℕ))) → Stood (x .tables .faults) (keptIf x o .tables .faults)
-    go none = stood (x .tables .faults)
-    go (some q) = stood (x .tables .faults)
-
-all-stood : (cs : List (Call (List ℕ))) (x : Meaning) → Stood (x .tables .faults) (callAll overnight x cs .tables .faults)
-unfolding callAll
-all-stood [] x = stood (x .tables .faults)
-all-stood (c ∷ cs) x = stood-more (call-stood x c) (all-stood cs (callOne overnight x c))
-
--- The record of faults stands until the next opening, whatever is called.
-pub faults-stand : {n : ℕ} → n ≤ 4294967295 → {calls : List (Call (List ℕ))} (more : List (Call (List ℕ))) {s t : Held} → Given n calls s → Given n (calls ++ more) t → Stood (view s .tables .faults) (view t .tables .faults)
-faults-stand {n} small {calls} more {s} {t} g h =
-    let later : view t ≡ callAll overnight (view s) more =
-    means small h ∙ call-more overnight n calls more (opened feed n) ∙ ap (λ (x : Meaning). callAll overnight x more) (sym (means small g)) in
-    subst (λ (x : Meaning). Stood (view s .tables .faults) (x .tables .faults)) (sym later) (all-stood more (view s))

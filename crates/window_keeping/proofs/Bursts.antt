@@ -36,7 +36,7 @@ module _ {w : List ℕ} {next end : ℕ} (neat : Neat w next) (known : Known w n
   x = stateOf w next end
 
   feed : Feed (List ℕ) (Unit {0})
-  feed = record { start = tt; apply = λ t k m. tt }
+  feed = record { apply = λ t k m. tt }
 
   record Left (y : State (List ℕ) (Unit {0})) : Type 0 where
     within : Within (y .waiting) next

@@ -98,9 +98,10 @@ pub overnight-judged : {Table : Type 0} (feed : Feed (List ℕ) Table) → Judge
 overnight-judged feed =
     record { fits = λ x s p h. let j = judged x s p h in subst (Fits 256 x) (j .1) (within x s (header.heartbeat (headerIn s .flag)) refl (j .0)) }
 
--- Demand 3 for the overnight feed, over any tables: for every opening number and every sequence of calls of both kinds.
-pub overnight-demand3 : {Table : Type 0} (feed : Feed (List ℕ) Table) (s : ℕ) (calls : List (Call (List ℕ))) → Demand3 feed s (accepted (channel feed) (opened feed s) calls) (callAll (channel feed) (opened feed s) calls)
-overnight-demand3 feed s calls = demand3 (channel feed) s (overnight-judged feed) calls
+-- Demand 3 for the overnight feed, over any tables: for every opening, by its number and the tables that it starts from, and every
+-- sequence of calls of both kinds.
+pub overnight-demand3 : {Table : Type 0} (feed : Feed (List ℕ) Table) (start : Table) (s : ℕ) (calls : List (Call (List ℕ))) → Demand3 feed start s (accepted (channel feed) (opened start s) calls) (callAll (channel feed) (opened start s) calls)
+overnight-demand3 feed start s calls = demand3 (channel feed) s (overnight-judged feed) calls
 
 -- A packet that starts at or below next never meets 9: it has at most 255 messages.
 pub never-nine : {Table : Type 0} (x : State (List ℕ) Table) (s : List ℕ) → Bytes s → headerIn s .seq ≤ x .next → nine x s .0 ≡ false
@@ -108,7 +109,7 @@ never-nine x s bytes start =
     lt-leb (x .next + 256) (lastOf (headerIn s .seq) (headerIn s .messages)) (omega (arith, getD-small s 7 bytes))
 
 -- If it is kept, and its last number is at or above next, the lowest number not carried moves past that number; next stands.
-pub overnight-moves : {Table : Type 0} (feed : Feed (List ℕ) Table) (s : ℕ) {h : List (Packet (List ℕ))} {x : State (List ℕ) Table} (bytes : List ℕ) {p : Packet (List ℕ)} {n : ℕ} → Rule (channel feed) s h x → judge x bytes ≡ some p → p .first ≤ x .next
+pub overnight-moves : {Table : Type 0} (feed : Feed (List ℕ) Table) {start : Table} (s : ℕ) {h : List (Packet (List ℕ))} {x : State (List ℕ) Table} (bytes : List ℕ) {p : Packet (List ℕ)} {n : ℕ} → Rule (channel feed) start s h x → judge x bytes ≡ some p → p .first ≤ x .next
     → Lowest s (h ++ (p ∷ [])) n → (endOf p ≤ n) × (keepOne (channel feed) x bytes .next ≡ x .next)
 overnight-moves feed s {h} {x} bytes {p} {n} rule e start low = (
   keep-moves (channel feed) s (overnight-judged feed) bytes rule e start (subst (λ (o : Option (Packet (List ℕ))). Lowest s (h ++ joined o []) n) (sym e) low),
@@ -116,5 +117,5 @@ overnight-moves feed s {h} {x} bytes {p} {n} rule e start low = (
 )
 
 -- Taken, it moves next too.
-pub overnight-past : {Table : Type 0} (feed : Feed (List ℕ) Table) (s : ℕ) {h : List (Packet (List ℕ))} {x : State (List ℕ) Table} (bytes : List ℕ) {p : Packet (List ℕ)} → Rule (channel feed) s h x → judge x bytes ≡ some p → p .first ≤ x .next → endOf p ≤ takeOne (channel feed) x bytes .next
+pub overnight-past : {Table : Type 0} (feed : Feed (List ℕ) Table) {start : Table} (s : ℕ) {h : List (Packet (List ℕ))} {x : State (List ℕ) Table} (bytes : List ℕ) {p : Packet (List ℕ)} → Rule (channel feed) start s h x → judge x bytes ≡ some p → p .first ≤ x .next → endOf p ≤ takeOne (channel feed) x bytes .next
 overnight-past feed s bytes rule e start = take-past (channel feed) s (overnight-judged feed) bytes rule e start

@@ -32,8 +32,8 @@ entry-from-match-keys6 c = c .before .before .before
 abbrev pub entry-from-match-keys7 : tie.At-match-keys7 → tie.Start
 entry-from-match-keys7 c = c .before .before .before
 
-abbrev pub entry-from-match-rest : tie.At-match-rest → tie.Start
-entry-from-match-rest c = c .before .before .before
+abbrev pub entry-from-unlisted : tie.After-unlisted → tie.Start
+entry-from-unlisted c = c .before .before .before .before
 
 abbrev pub u8-at-from-match-keys1 : tie.At-match-keys1 → tie.After-u8-at
 u8-at-from-match-keys1 c = c .before
@@ -65,8 +65,8 @@ u8-at-from-match-keys6 c = c .before
 abbrev pub u8-at-from-match-keys7 : tie.At-match-keys7 → tie.After-u8-at
 u8-at-from-match-keys7 c = c .before
 
-abbrev pub u8-at-from-match-rest : tie.At-match-rest → tie.After-u8-at
-u8-at-from-match-rest c = c .before
+abbrev pub u8-at-from-unlisted : tie.After-unlisted → tie.After-u8-at
+u8-at-from-unlisted c = c .before .before
 
 abbrev pub match-keys1-from-session : tie.After-session → tie.At-match-keys1
 match-keys1-from-session c = c .before
@@ -76,3 +76,6 @@ match-keys2-from-top c = c .before
 
 abbrev pub match-keys3-from-trade : tie.After-trade → tie.At-match-keys3
 match-keys3-from-trade c = c .before
+
+abbrev pub match-rest-from-unlisted : tie.After-unlisted → tie.At-match-rest
+match-rest-from-unlisted c = c .before

@@ -1,7 +1,8 @@
 -- A message that touches no order is decided by its symbol's look-up and the count of insides: an inside is renewed or comes, a code
--- is recorded, or it is a fault.
+-- is recorded, a type that is not in the table is counted apart, or it is a fault.
 -- Assumes nothing.
 mod Points
+use mathlib.Core.Path.{_∙_}
 use Prim.Native.Nat.{ℕ, _<_}
 use native.Mathlib.Omega.{arith}
 use lib.ListN.{getD, set}
@@ -12,8 +13,8 @@ use Rattle.book.specs.Tables.{Book, holdingInsides}
 use Rattle.book.proofs.Steps.{Decided, enter-few, enter-room, renew-room, renew-within}
 use Rattle.book_room.specs.Room.{Houses}
 use Rattle.book_room.proofs.Decides.{decided-tell, enter-symbol, tell-left}
-use Rattle.book_room.proofs.Done.{counts, lies, told-enter, told-fault, told-none, told-record, told-renew}
-use Rattle.book_room.proofs.Lying.{filled, held-at, long}
+use Rattle.book_room.proofs.Done.{counts, lies, told-apart, told-enter, told-fault, told-none, told-record, told-renew}
+use Rattle.book_room.proofs.Lying.{filled, held-at, long, rule-at}
 use Rattle.book_room.proofs.Writes.{code-done, spare}
 use Rattle.book_room.proofs.telling.tell.Proof.Points as to
 use Rattle.book_room.proofs.telling.tell.Statement.{statement}
@@ -27,7 +28,8 @@ decided : (c : tie.After-tell) (next end : ℕ) (b : Book) → Housed c next end
     → Decided b (to.entry-from-tell c .args .bytes .now) (numberOf (messageIn (to.entry-from-tell c .args .bytes .now) .id)) (topicOf (messageIn (to.entry-from-tell c .args .bytes .now))) (c .tell .result)
 decided c next end b h =
     decided-tell (to.entry-from-tell c .args .bytes .now) (h .ready .kept) (h .ready .whole)
-    (to.told-from-tell c .told .ensures next end b (lies h)) (held-at (filled (lies h))) (c .tell .ensures)
+    (to.told-from-tell c .told .ensures next end b (lies h)) (held-at (filled (lies h)))
+    (to.rule-in-from-tell c .rule-in .ensures ∙ rule-at (filled (lies h))) (c .tell .ensures)
 
 few : (c : tie.After-enum-told) (next end : ℕ) (b : Book) → Housed (to.tell-from-enum-told c) next end b → getD (to.entry-from-enum-told c .args .room .now) 3 0 < 64
 few c next end b h = omega (arith, held-at (filled (lies h)), enter-few (decided (to.tell-from-enum-told c) next end b h) (c .enum-told .given .1))
@@ -102,17 +104,26 @@ returns-4 c next end b h =
     told-fault next end (to.entry-from-slice-known6 c .args .number) (decided (to.tell-from-slice-known6 c) next end b h)
     (to.reason-from-slice-known6 c .reason .given .1) (to.mark-from-slice-known6 c .mark .ensures next end b (counts h))
 
+count-apart-requires : tie.Need-count-apart-requires
+count-apart-requires c κs = let pre = to.entry-from-count-apart-arg c .pre .1 in (pre .0, pre .1, pre .2, counts (pre .3))
+
 returns-5 : tie.Need-returns-5
 returns-5 c next end b h =
-    let d = decided (to.tell-from-match-keys5 c) next end b h in
-    let number = to.entry-from-match-keys5 c .args .number in
-    told-none next end number d (tell-left d number (to.entry-from-match-keys5 c .pre .0) (c .match .keys5)) (h .is)
+    told-apart next end (to.entry-from-slice-known7 c .args .number) (decided (to.tell-from-slice-known7 c) next end b h)
+    (to.enum-told2-from-slice-known7 c .enum-told2 .given .1) (to.count-apart-from-slice-known7 c .count-apart .ensures next end b (counts h))
+
+returns-6 : tie.Need-returns-6
+returns-6 c next end b h =
+    let d = decided (to.tell-from-match-keys6 c) next end b h in
+    let number = to.entry-from-match-keys6 c .args .number in
+    told-none next end number d (tell-left d number (to.entry-from-match-keys6 c .pre .0) (c .match .keys6)) (h .is)
 
 pub tell-spec : {M : Type 1} → statement M
 tell-spec =
     tie.close
     (tie.spec
     (λ c. omega (arith, long (filled (lies (to.entry-from-slice-known2 c .pre .1 .3)))))
+    (λ c κs. omega (arith, long (filled (lies (to.entry-from-rule-in-arg c .pre .1 .3)))))
     told-requires
     (λ c κs. search needs)
     (λ c. search needs)
@@ -128,6 +139,8 @@ tell-spec =
     (λ c. search needs)
     mark-requires
     (λ c. search needs)
+    count-apart-requires
+    (λ c. search needs)
     returns
     (λ c. search needs)
     returns-2
@@ -136,4 +149,6 @@ tell-spec =
     (λ c. search needs)
     returns-4
     (λ c. search needs)
-    returns-5)
+    returns-5
+    (λ c. search needs)
+    returns-6)

@@ -14,13 +14,13 @@ use Rattle.session.proofs.asking.inside_at.Tie as tie
 abbrev named : List ℕ → ℕ → List ℕ → Inside
 named room place symbol =
     record {
-      ask = getD room (1922 + 6 * place) 0;
-      bid = getD room (1922 + 6 * place + 1) 0;
-      time = getD room (1922 + 6 * place + 2) 0;
-      askvolume = getD room (1922 + 6 * place + 3) 0;
-      bidvolume = getD room (1922 + 6 * place + 4) 0;
+      ask = getD room (1924 + 6 * place) 0;
+      bid = getD room (1924 + 6 * place + 1) 0;
+      time = getD room (1924 + 6 * place + 2) 0;
+      askvolume = getD room (1924 + 6 * place + 3) 0;
+      bidvolume = getD room (1924 + 6 * place + 4) 0;
       symbol = symbol;
-      unsolicited = getD room (1922 + 6 * place + 5) 0;
+      unsolicited = getD room (1924 + 6 * place + 5) 0;
     }
 
 returns : tie.Need-returns

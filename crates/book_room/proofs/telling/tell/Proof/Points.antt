@@ -5,8 +5,11 @@ use Rattle.book_room.proofs.telling.tell.Tie as tie
 abbrev pub entry-from-slice-known2 : tie.After-slice-known2 → tie.Start
 entry-from-slice-known2 c = c .before .before .before
 
+abbrev pub entry-from-rule-in-arg : tie.After-rule-in-arg → tie.Start
+entry-from-rule-in-arg c = entry-from-slice-known2 (c .before)
+
 abbrev pub entry-from-told-arg : tie.After-told-arg → tie.Start
-entry-from-told-arg c = entry-from-slice-known2 (c .before)
+entry-from-told-arg c = entry-from-rule-in-arg (c .before .before)
 
 abbrev pub entry-from-tell : tie.After-tell → tie.Start
 entry-from-tell c = entry-from-told-arg (c .before .before)
@@ -41,8 +44,17 @@ entry-from-mark-arg c = entry-from-tell (c .before .before .before .before)
 abbrev pub entry-from-slice-known6 : tie.After-slice-known6 → tie.Start
 entry-from-slice-known6 c = entry-from-mark-arg (c .before .before .before)
 
-abbrev pub entry-from-match-keys5 : tie.At-match-keys5 → tie.Start
-entry-from-match-keys5 c = entry-from-tell (c .before)
+abbrev pub entry-from-count-apart-arg : tie.After-count-apart-arg → tie.Start
+entry-from-count-apart-arg c = entry-from-tell (c .before .before .before)
+
+abbrev pub entry-from-slice-known7 : tie.After-slice-known7 → tie.Start
+entry-from-slice-known7 c = entry-from-count-apart-arg (c .before .before .before)
+
+abbrev pub entry-from-match-keys6 : tie.At-match-keys6 → tie.Start
+entry-from-match-keys6 c = entry-from-tell (c .before)
+
+abbrev pub rule-in-from-tell : tie.After-tell → tie.After-rule-in
+rule-in-from-tell c = c .before .before .before
 
 abbrev pub told-from-tell : tie.After-tell → tie.After-told
 told-from-tell c = c .before
@@ -68,8 +80,11 @@ tell-from-known-told2 c = c .before .before .before
 abbrev pub tell-from-slice-known6 : tie.After-slice-known6 → tie.After-tell
 tell-from-slice-known6 c = c .before .before .before .before .before .before .before
 
-abbrev pub tell-from-match-keys5 : tie.At-match-keys5 → tie.After-tell
-tell-from-match-keys5 c = c .before
+abbrev pub tell-from-slice-known7 : tie.After-slice-known7 → tie.After-tell
+tell-from-slice-known7 c = c .before .before .before .before .before .before
+
+abbrev pub tell-from-match-keys6 : tie.At-match-keys6 → tie.After-tell
+tell-from-match-keys6 c = c .before
 
 abbrev pub place-from-known-told : tie.After-known-told → tie.After-place
 place-from-known-told c = c .before
@@ -118,3 +133,9 @@ reason-from-slice-known6 c = c .before .before .before .before .before
 
 abbrev pub mark-from-slice-known6 : tie.After-slice-known6 → tie.After-mark
 mark-from-slice-known6 c = c .before .before
+
+abbrev pub enum-told2-from-slice-known7 : tie.After-slice-known7 → tie.After-enum-told2
+enum-told2-from-slice-known7 c = c .before .before .before .before
+
+abbrev pub count-apart-from-slice-known7 : tie.After-slice-known7 → tie.After-count-apart
+count-apart-from-slice-known7 c = c .before .before

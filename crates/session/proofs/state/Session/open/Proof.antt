@@ -6,6 +6,7 @@ use mathlib.Core.List.{List}
 use Prim.Native.Nat.{ℕ}
 use native.Mathlib.Omega.{arith}
 use lib.ListN.{length, replicate}
+use Rattle.book.specs.declared.tables.OpeningRule.the-variants.{Default}
 use Rattle.session.proofs.Calls.{opened-with, rule-of}
 use Rattle.session.proofs.States.{ruled-open}
 use borrow.Author.Needs.{needs}
@@ -22,7 +23,7 @@ returns c =
     opened-with (to.entry-from-free c .args .number) (to.no-order-from-free c .no-order .ensures)
     (to.clear-from-free c .clear .ensures ∙ ap zeros (to.entry-from-free c .pre .numbers))
     (c .free .ensures ∙ ap zeros (to.entry-from-free c .pre .bytes)) in
-    (fresh, rule-of fresh (ruled-open (to.entry-from-free c .args .number) (omega arith)))
+    (fresh, rule-of fresh (ruled-open Default (to.entry-from-free c .args .number) (omega arith)))
 
 pub open-spec : {M : Type 1} → statement M
 open-spec =
