@@ -1,6 +1,6 @@
 /* Jangsebit for C11 and C++17: the exports of the proved library, and over each a function with types.
  *
- * A host holds one `struct jangsebit` for a session and hands its address to every call: first to `jsb_open`, which
+ * A host holds one `struct jangsebit` for a session and hands its address to every call: first to an opening, which
  * fills all of it, then to the others. The library keeps nothing of its own, allocates nothing and calls nothing but
  * memcpy and memset, so sessions are independent, a copy of the struct is a session like the first, and threads may work
  * on different ones; one session is used by one thread at a time, or by several that only ask.
@@ -22,14 +22,14 @@
 #endif
 
 /* What `jangsebit_version` answers where library and header belong together. */
-#define JANGSEBIT_VERSION 2
+#define JANGSEBIT_VERSION 3
 
 /* How many orders can be live and insides held, how many numbers can be waited for; the numbers of the room and the
  * bytes of the window. */
 #define JANGSEBIT_ORDERS 256
 #define JANGSEBIT_INSIDES 64
 #define JANGSEBIT_NUMBERS 256
-#define JANGSEBIT_ROOM 2306
+#define JANGSEBIT_ROOM 2308
 #define JANGSEBIT_WINDOW 32768
 
 /* A packet's bytes, at least and at most; those of an order id or a symbol; of a request; of all the requests that
@@ -87,7 +87,15 @@ enum jangsebit_refusal {
     JANGSEBIT_FIELD_RULE = 14
 };
 
-/* Why a message that was applied changed nothing; `jsb_fault_words` has a word for each. */
+/* What an opening makes of messages whose type is not listed. They are applied and change nothing under either rule: by
+ * default they are counted apart and are no fault; under the strict rule they are faults, and not in that count. */
+enum jangsebit_rule {
+    JANGSEBIT_DEFAULT = 0,
+    JANGSEBIT_STRICT = 1
+};
+
+/* Why a message that was applied changed nothing; `jsb_fault_words` has a word for each. The first is given under the
+ * strict rule only. */
 enum jangsebit_fault {
     JANGSEBIT_FAULTLESS = 0,
     JANGSEBIT_UNLISTED_TYPE = 1,
@@ -117,6 +125,12 @@ extern "C" {
 uint32_t jangsebit_version(void);
 
 void jangsebit_open(
+    struct jangsebit_order session[JANGSEBIT_ORDERS],
+    uint64_t room[JANGSEBIT_ROOM],
+    uint8_t window[JANGSEBIT_WINDOW],
+    uint32_t number);
+
+void jangsebit_open_strict(
     struct jangsebit_order session[JANGSEBIT_ORDERS],
     uint64_t room[JANGSEBIT_ROOM],
     uint8_t window[JANGSEBIT_WINDOW],
@@ -167,6 +181,10 @@ uint64_t jangsebit_apply(
 uint64_t jangsebit_lowest(const uint64_t room[JANGSEBIT_ROOM], const uint8_t window[JANGSEBIT_WINDOW]);
 
 void jangsebit_numbers(const uint64_t room[JANGSEBIT_ROOM], uint64_t told[8]);
+
+uint64_t jangsebit_rule(const uint64_t room[JANGSEBIT_ROOM]);
+
+uint64_t jangsebit_unlisted(const uint64_t room[JANGSEBIT_ROOM]);
 
 uint64_t jangsebit_order(
     const struct jangsebit_order session[JANGSEBIT_ORDERS],
@@ -332,11 +350,11 @@ static_assert(offsetof(struct jangsebit_order, firm) == 20, "firm");
 static_assert(offsetof(struct jangsebit_order, symbol) == 24, "symbol");
 static_assert(offsetof(struct jangsebit_order, side) == 38, "side");
 static_assert(offsetof(struct jangsebit_order, unsolicited) == 39, "unsolicited");
-static_assert(sizeof(struct jangsebit) == 61456, "a session has 61,456 bytes");
+static_assert(sizeof(struct jangsebit) == 61472, "a session has 61,472 bytes");
 static_assert(alignof(struct jangsebit) == 8, "a session lies at a multiple of 8");
 static_assert(offsetof(struct jangsebit, orders) == 0, "orders");
 static_assert(offsetof(struct jangsebit, room) == 10240, "room");
-static_assert(offsetof(struct jangsebit, window) == 28688, "window");
+static_assert(offsetof(struct jangsebit, window) == 28704, "window");
 static_assert(sizeof(struct jsb_answer) == 4 * sizeof(uint64_t), "an answer is four numbers");
 static_assert(sizeof(struct jsb_kept) == 4 * sizeof(uint64_t), "an answer of a burst that keeps is four numbers");
 static_assert(sizeof(struct jsb_numbers) == 8 * sizeof(uint64_t), "the numbers are eight");
@@ -348,11 +366,18 @@ static_assert(sizeof(struct jsb_place) == 2 * sizeof(uint64_t), "a place is two 
 
 /* ---- The functions for a host. ---- */
 
-/* Opens a session at a number: next and end are that number, both tables are empty, nothing waits. Takes any number and
- * refuses nothing. Leaves nothing of what stood in the struct, which need not have been filled. */
+/* Opens a session at a number: next and end are that number, both tables are empty, nothing waits; messages of unlisted
+ * types are counted apart. Takes any number and refuses nothing. Leaves nothing of what stood in the struct, which need
+ * not have been filled. */
 static inline void jsb_open(struct jangsebit *held, uint32_t number)
 {
     jangsebit_open(held->orders, held->room, held->window, number);
+}
+
+/* The same under the strict rule: messages of unlisted types are faults. */
+static inline void jsb_open_strict(struct jangsebit *held, uint32_t number)
+{
+    jangsebit_open_strict(held->orders, held->room, held->window, number);
 }
 
 /* Takes one packet: keeps it and, unless that is refused, applies all that waits from next on. Answers 0, and into
@@ -446,6 +471,25 @@ static inline struct jsb_numbers jsb_numbers(const struct jangsebit *held)
     numbers.faults = told[6];
     numbers.reason = told[7];
     return numbers;
+}
+
+/* Answers 1 where the book is doubtful, since a message faulted after the opening, else 0. Refuses nothing. */
+static inline int jsb_doubtful(const struct jangsebit *held)
+{
+    return jsb_numbers(held).faults != 0;
+}
+
+/* Answers the rule for unlisted types, which stays until the next opening. Refuses nothing. */
+static inline enum jangsebit_rule jsb_rule(const struct jangsebit *held)
+{
+    return (enum jangsebit_rule)jangsebit_rule(held->room);
+}
+
+/* Answers how many messages of unlisted types were applied since the opening and are no faults; 0 under the strict rule.
+ * Refuses nothing. */
+static inline uint64_t jsb_unlisted(const struct jangsebit *held)
+{
+    return jangsebit_unlisted(held->room);
 }
 
 /* Answers the live order of an id, of which the first 12 characters count. Refuses with 12 where the id breaks its rule,

@@ -71,6 +71,19 @@ static void sizes(void)
     EXPECT(told[4] == sizeof apart.window && told[5] == alignof(uint8_t));
     EXPECT(told[0] == offsetof(struct jangsebit, room) && told[0] + told[2] == offsetof(struct jangsebit, window));
     EXPECT(jsb_sizes_agree());
+
+    /* a strict opening fills the same, and has the rule beside */
+    memset(&apart, STALE, sizeof apart);
+    jangsebit_open_strict(apart.orders, apart.room, apart.window, 0);
+    EXPECT(jangsebit_rule(apart.room) == JANGSEBIT_STRICT && jangsebit_unlisted(apart.room) == 0);
+    size_t filled = 0;
+    for (size_t k = 0; k < JANGSEBIT_ROOM; k++) {
+        filled += apart.room[k] != 0;
+    }
+    EXPECT(filled == 1);
+    EXPECT(all(apart.orders, sizeof apart.orders, 0) && all(apart.window, sizeof apart.window, 0));
+    EXPECT(all(apart.first, sizeof apart.first, STALE) && all(apart.second, sizeof apart.second, STALE));
+    EXPECT(all(apart.third, sizeof apart.third, STALE) && all(apart.fourth, sizeof apart.fourth, STALE));
 }
 
 static const uint8_t *text(const char *from)
@@ -333,6 +346,65 @@ static void insides(void)
     EXPECT(inside.ask_volume == 900 && inside.bid_volume == 500 && inside.unsolicited == 'N');
 }
 
+/* A packet that is one message of a type and no more. */
+#define BARE 15
+
+static void bare(uint8_t packet[BARE], uint32_t number, uint8_t type)
+{
+    memset(packet, 0, BARE);
+    packet[1] = BARE;
+    put(packet + 2, 4, number);
+    packet[7] = 1;
+    packet[13] = BARE - 12;
+    packet[14] = type;
+}
+
+/* Unlisted types under both rules; 28 is listed. */
+static void unlisted(void)
+{
+    static const uint8_t types[5] = {0, 10, 28, 29, 255};
+    uint8_t packet[BARE], framed[FRAMED];
+    uint64_t applied = 0, numbers[JANGSEBIT_FIELDS];
+    struct jsb_numbers now;
+    size_t count = 99;
+    for (int strict = 0; strict < 2; strict++) {
+        /* what the opening before left is gone, its rule too */
+        if (strict) {
+            jsb_open_strict(&held, 7);
+        } else {
+            jsb_open_strict(&held, 1);
+            jsb_open(&held, 7);
+        }
+        EXPECT(jsb_rule(&held) == (strict ? JANGSEBIT_STRICT : JANGSEBIT_DEFAULT));
+        EXPECT(jsb_unlisted(&held) == 0 && !jsb_doubtful(&held));
+        for (uint32_t k = 0; k < 5; k++) {
+            bare(packet, 7 + k, types[k]);
+            EXPECT(jsb_take(&held, packet, BARE, &applied) == JANGSEBIT_DONE && applied == 1);
+        }
+        now = jsb_numbers(&held);
+        EXPECT(now.next == 12 && now.end == 12 && now.live == 0 && now.held == 0 && now.code == 0);
+        EXPECT(jsb_unlisted(&held) == (strict ? 0 : 4) && jsb_doubtful(&held) == strict);
+        EXPECT(now.faults == (strict ? 4 : 0) && now.fault == (strict ? 7 : 0));
+        EXPECT(now.reason == (strict ? JANGSEBIT_UNLISTED_TYPE : JANGSEBIT_FAULTLESS));
+
+        /* a fault beside them, and one more of them kept and applied */
+        add(framed, 12, "00000000001aZZ", 'B', 300, 1250000);
+        EXPECT(jsb_take(&held, framed + 2, ADD, &applied) == JANGSEBIT_DONE && applied == 1 && jsb_doubtful(&held));
+        bare(packet, 13, 99);
+        EXPECT(jsb_keep(&held, packet, BARE, &applied) == JANGSEBIT_DONE && applied == 1);
+        EXPECT(jsb_unlisted(&held) == (strict ? 0 : 4) && jsb_apply(&held, 1) == 1);
+        now = jsb_numbers(&held);
+        EXPECT(jsb_unlisted(&held) == (strict ? 0 : 5) && now.next == 14 && now.faults == (strict ? 6 : 1));
+        EXPECT(now.fault == (strict ? 7 : 12) && now.reason == (strict ? JANGSEBIT_UNLISTED_TYPE : JANGSEBIT_BROKEN_RULE));
+        EXPECT(jsb_rule(&held) == (strict ? JANGSEBIT_STRICT : JANGSEBIT_DEFAULT));
+    }
+    /* read as the type alone, and not written */
+    memset(numbers, STALE, sizeof numbers);
+    EXPECT(jsb_message(packet + 12, 3, numbers) == JANGSEBIT_DONE && numbers[0] == 99);
+    EXPECT(all(numbers + 1, sizeof numbers - sizeof numbers[0], STALE));
+    EXPECT(jsb_write_message(numbers, framed, sizeof framed, 0, &count) == JANGSEBIT_FIELD_RULE && count == 0);
+}
+
 /* Ids, headers, packets and messages by themselves. */
 static void alone(void)
 {
@@ -397,6 +469,7 @@ int main(void)
     asking();
     insides();
     keeping();
+    unlisted();
     alone();
     EXPECT(strcmp(jsb_refusal_words(14), "a field breaks its rule") == 0);
     EXPECT(strcmp(jsb_refusal_words(15), "no refusal has this number") == 0);

@@ -30,6 +30,7 @@ use denote.Triple.Spec.{tripleOf}
 use Rattle.wire.specs.Number.{splice}
 use Rattle.merge.specs.State.{applyUpTo, takeAll}
 use Rattle.window_taking.specs.Turns.{endFrom, packetsFrom}
+use Rattle.book_room.specs.Room.{roomSize}
 use Rattle.session.specs.Meaning.{Meaning, feed, held, overnight, rep, view, Ruled}
 use Rattle.session.specs.Bursts.{rowsOf, Runs}
 use Rattle.session.specs.declared.state.Session.{Session}
@@ -40,7 +41,7 @@ use Rattle.session_lent.proofs.Passed.{one, and-one, says-all}
 use Rattle.session_lent.proofs.run as ran
 
 abbrev pub Rooms : RattleType
-Rooms = Arr u64 2306
+Rooms = Arr u64 roomSize
 
 abbrev pub Places : RattleType
 Places = Arr u8 32768

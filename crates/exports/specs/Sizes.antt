@@ -2,8 +2,9 @@
 -- Assumes nothing.
 use mathlib.Core.List.{List, [], _∷_}
 use Prim.Native.Nat.{ℕ, _*_}
+use Rattle.book_room.specs.Room.{roomSize}
 
--- 256 orders of 40 bytes, 2,306 numbers of 8, 256 places of 128 bytes; live orders, insides, numbers; a packet's bytes at least and at
+-- 256 orders of 40 bytes, 2,308 numbers of 8, 256 places of 128 bytes; live orders, insides, numbers; a packet's bytes at least and at
 -- most, a message's at most
 abbrev pub sizeNumbers : List ℕ
-sizeNumbers = 256 * 40 ∷ 8 ∷ 2306 * 8 ∷ 8 ∷ 256 * 128 ∷ 1 ∷ 256 ∷ 64 ∷ 256 ∷ 12 ∷ 1472 ∷ 128 ∷ []
+sizeNumbers = 256 * 40 ∷ 8 ∷ roomSize * 8 ∷ 8 ∷ 256 * 128 ∷ 1 ∷ 256 ∷ 64 ∷ 256 ∷ 12 ∷ 1472 ∷ 128 ∷ []

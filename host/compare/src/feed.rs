@@ -4,8 +4,9 @@
 
 use crate::capture::Capture;
 use crate::night::{unlisted, Manners, Night};
-use crate::pair::Call;
+use crate::pair::{Call, Opening};
 use crate::random::Random;
+use jangsebit::Rule;
 use twin::packet::{Messages, HEADER, LARGEST};
 use twin::Session;
 
@@ -64,14 +65,14 @@ pub struct Feed {
     tiny: u64,
 }
 
-/// A capture that follows from its seed, and the number at which a session on it opens.
-pub fn capture(seed: u64, packets: usize) -> (u32, Capture) {
+/// A capture that follows from its seed, and how a session on it opens.
+pub fn capture(seed: u64, packets: usize) -> (Opening, Capture) {
     let mut random = Random::new(seed);
     let manners = Manners::any(&mut random);
     let weights = random.pick(&[CALM, LOSSY, LOSSY, ROUGH, ROUGH, ROUGH]);
     let opening = opening(&mut random);
     let most = random.pick(&[1, 4, 12, 40]);
-    let mut feed = Feed::new(random, manners, weights, most, opening);
+    let mut feed = Feed::new(random, manners, weights, most, opening.number);
     (opening, feed.capture(packets))
 }
 
@@ -82,8 +83,8 @@ pub(crate) fn split(random: &mut Random, opening: u32) -> Feed {
     Feed::new(Random::new(random.number()), manners, SPLIT, most, opening)
 }
 
-pub(crate) fn opening(random: &mut Random) -> u32 {
-    match random.below(10) {
+pub(crate) fn opening(random: &mut Random) -> Opening {
+    let number = match random.below(10) {
         0 => 0,
         1 => 1,
         2 => u32::MAX,
@@ -91,7 +92,9 @@ pub(crate) fn opening(random: &mut Random) -> u32 {
         4 => u32::MAX - random.below(6_000) as u32,
         5 => random.number() as u32,
         _ => random.below(5_000) as u32,
-    }
+    };
+    let rule = random.pick(&[Rule::Default, Rule::Strict]);
+    Opening { number, rule }
 }
 
 impl Feed {
@@ -117,6 +120,7 @@ impl Feed {
 
     fn capture(&mut self, packets: usize) -> Capture {
         let mut capture = Capture::new();
+        // What a packet is aimed at does not depend on the rule.
         let mut session = Box::new(Session::open(self.opening as u32));
         for _ in 0..packets {
             capture.push(&self.packet(&mut session, Call::Take));

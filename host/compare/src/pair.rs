@@ -1,6 +1,6 @@
 //! The library's session and the twin's, side by side: each call is made on both, and the answers must be equal.
 
-use jangsebit::{Answer, Burst, Question, Quote, Refusal};
+use jangsebit::{Answer, Burst, Question, Quote, Refusal, Rule};
 use std::fmt::Debug;
 
 /// The answer to one packet, from either: how many messages it applied or, where it was kept alone, how many wait that
@@ -39,6 +39,22 @@ impl Row {
 
 /// A call whose answers differ.
 pub type Difference = String;
+
+/// How sessions are opened: at which number, and under which rule.
+#[derive(Clone, Copy, Debug, PartialEq, Eq)]
+pub struct Opening {
+    pub number: u32,
+    pub rule: Rule,
+}
+
+impl Opening {
+    pub fn twin(self) -> twin::Session {
+        match self.rule {
+            Rule::Default => twin::Session::open(self.number),
+            Rule::Strict => twin::Session::open_strict(self.number),
+        }
+    }
+}
 
 /// What is done with a packet.
 #[derive(Clone, Copy, Debug)]
@@ -130,18 +146,25 @@ pub fn id_of(mut value: u64) -> [u8; 14] {
 }
 
 impl Pair {
-    pub fn open(number: u32) -> Pair {
+    pub fn open(opening: Opening) -> Pair {
+        let library = match opening.rule {
+            Rule::Default => jangsebit::Session::open(opening.number),
+            Rule::Strict => jangsebit::Session::open_strict(opening.number),
+        };
         Pair {
-            library: jangsebit::Session::open(number),
-            twin: Box::new(twin::Session::open(number)),
+            library,
+            twin: Box::new(opening.twin()),
             answers: Vec::new(),
         }
     }
 
     /// Opens both again; the library in the memory that it has.
-    pub fn reopen(&mut self, number: u32) {
-        self.library.reopen(number);
-        *self.twin = twin::Session::open(number);
+    pub fn reopen(&mut self, opening: Opening) {
+        match opening.rule {
+            Rule::Default => self.library.reopen(opening.number),
+            Rule::Strict => self.library.reopen_strict(opening.number),
+        }
+        *self.twin = opening.twin();
     }
 
     pub fn twin(&self) -> &twin::Session {
@@ -187,7 +210,9 @@ impl Pair {
         let answer = applied(self.library.take(packet));
         let row = self.row(answer);
         let expected = self.twin_row(Call::Take, packet);
-        agreed(("take", packet), row, expected)
+        equal(("take", packet), row, expected)?;
+        self.faults()?;
+        Ok(row)
     }
 
     /// The same; a refusal must have left the library's session as it was, and otherwise it must hold, byte for byte,
@@ -215,7 +240,8 @@ impl Pair {
         let answer = fresh(self.library.keep(packet));
         let row = self.row(answer);
         let expected = self.twin_row(Call::Keep, packet);
-        agreed(("keep", packet), row, expected)?;
+        equal(("keep", packet), row, expected)?;
+        self.faults()?;
         if row.answer.is_err() {
             unchanged(&before, &self.library)?;
         }
@@ -228,6 +254,7 @@ impl Pair {
         let answer = self.library.apply(count).messages;
         let applied = agreed(("apply", count), answer, self.twin.apply(count))?;
         equal("next", self.library.numbers().next, self.twin.next())?;
+        self.faults()?;
         if applied == 0 {
             unchanged(&before, &self.library)?;
         }
@@ -271,7 +298,7 @@ impl Pair {
         let stay = answers[count..].iter().all(|a| *a == Answer::default());
         equal("answers behind the last", stay, true)?;
         self.answers = answers;
-        Ok(())
+        self.faults()
     }
 
     /// The same; the library's session must hold, byte for byte, what a call for each packet gives.
@@ -312,23 +339,30 @@ impl Pair {
         Ok(())
     }
 
-    /// next, end, the lowest number not carried, the tables' counts, the code and the faults.
+    /// The faults, the rule for types that are not in the table, and the count of those that are no fault.
+    fn faults(&self) -> Result<(), Difference> {
+        let (found, expected) = (self.library.numbers().faults, self.twin.faults());
+        let first = found.first();
+        let first = first.map(|(number, fault)| (number, fault.number()));
+        let due = (expected.count > 0).then_some((expected.number, expected.reason));
+        equal("faults", found.count, expected.count)?;
+        equal("first fault", first, due)?;
+        equal("doubtful", self.library.doubtful(), self.twin.doubtful())?;
+        let strict = self.library.rule() == Rule::Strict;
+        equal("strict", strict, self.twin.strict())?;
+        equal("unlisted", self.library.unlisted(), self.twin.unlisted())
+    }
+
+    /// next, end, the lowest number not carried, the tables' counts, the code, the faults and what is counted apart.
     pub fn numbers(&self) -> Result<(), Difference> {
         let numbers = self.library.numbers();
-        let faults = self.twin.faults();
-        let first = numbers
-            .faults
-            .first()
-            .map(|(number, fault)| (number, fault.number()));
-        let expected = (faults.count > 0).then_some((faults.number, faults.reason));
         equal("next", numbers.next, self.twin.next())?;
         equal("end", numbers.end, self.twin.end())?;
         self.lowest()?;
         equal("live", numbers.live, self.twin.book().live())?;
         equal("held", numbers.held, self.twin.book().held_insides().len())?;
         equal("code", numbers.code, self.twin.code().into())?;
-        equal("faults", numbers.faults.count, faults.count)?;
-        equal("first fault", first, expected)
+        self.faults()
     }
 
     /// All fields of both tables. The order of their places does not count.

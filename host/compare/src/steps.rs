@@ -2,8 +2,9 @@
 
 use crate::capture::Capture;
 use crate::feed::{self, Feed};
-use crate::pair::{Call, Difference, Pair};
+use crate::pair::{Call, Difference, Opening, Pair};
 use crate::random::Random;
+use jangsebit::Rule;
 use std::fmt;
 use twin::Session;
 
@@ -13,7 +14,7 @@ pub enum Step {
     Packet(Call, Vec<u8>),
     Burst(Call, Capture),
     Apply(u64),
-    Open(u32),
+    Open(Opening),
 }
 
 impl fmt::Debug for Step {
@@ -27,7 +28,7 @@ impl fmt::Debug for Step {
                     .try_for_each(|packet| write!(f, "\n    {packet:02x?}"))
             }
             Step::Apply(count) => write!(f, "Apply {count}"),
-            Step::Open(number) => write!(f, "Open {number}"),
+            Step::Open(opening) => write!(f, "{opening:?}"),
         }
     }
 }
@@ -47,8 +48,8 @@ pub(crate) const COUNTS: [u64; 10] = [0, 1, 1, 2, 5, 17, 64, 100, 256, u64::MAX]
 pub fn steps(seed: u64, count: usize) -> Vec<Step> {
     let mut random = Random::new(seed);
     let habit = random.pick(&HABITS);
-    let (mut feed, mut session) = opened(&mut random);
-    let mut steps = vec![Step::Open(session.next() as u32)];
+    let (opening, mut feed, mut session) = opened(&mut random);
+    let mut steps = vec![Step::Open(opening)];
     for _ in 1..count {
         let step = match random.weighed(&habit) {
             0 => Step::Packet(Call::Take, feed.packet(&mut session, Call::Take)),
@@ -67,8 +68,9 @@ pub fn steps(seed: u64, count: usize) -> Vec<Step> {
                 Step::Apply(count)
             }
             _ => {
-                (feed, session) = opened(&mut random);
-                Step::Open(session.next() as u32)
+                let opening;
+                (opening, feed, session) = opened(&mut random);
+                Step::Open(opening)
             }
         };
         steps.push(step);
@@ -76,16 +78,19 @@ pub fn steps(seed: u64, count: usize) -> Vec<Step> {
     steps
 }
 
-fn opened(random: &mut Random) -> (Feed, Box<Session>) {
+fn opened(random: &mut Random) -> (Opening, Feed, Box<Session>) {
     let opening = feed::opening(random);
-    let feed = feed::split(random, opening);
-    (feed, Box::new(Session::open(opening)))
+    let feed = feed::split(random, opening.number);
+    (opening, feed, Box::new(opening.twin()))
 }
 
 /// Makes the calls on both sessions, and says how many packets they had. Behind each call all numbers and all that is
 /// missing must be equal, now and then all of the tables.
 pub fn run(steps: &[Step]) -> Result<u64, Difference> {
-    let mut pair = Pair::open(0);
+    let mut pair = Pair::open(Opening {
+        number: 0,
+        rule: Rule::Default,
+    });
     let mut packets = 0;
     for (index, step) in steps.iter().enumerate() {
         match step {
@@ -106,7 +111,7 @@ pub fn run(steps: &[Step]) -> Result<u64, Difference> {
             Step::Apply(count) => {
                 pair.apply(*count)?;
             }
-            Step::Open(number) => pair.reopen(*number),
+            Step::Open(opening) => pair.reopen(*opening),
         }
         pair.numbers()?;
         pair.gaps()?;

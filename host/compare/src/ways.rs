@@ -2,7 +2,7 @@
 //! or kept and applied in portions.
 
 use crate::capture::Capture;
-use crate::pair::{id_of, Call, Difference, Pair};
+use crate::pair::{id_of, Call, Difference, Opening, Pair};
 use crate::random::Random;
 use crate::steps::COUNTS;
 use jangsebit::{Question, Session};
@@ -38,7 +38,7 @@ impl Tally {
 }
 
 /// Runs both sessions over a capture, and compares what they hold at its end.
-pub fn run(opening: u32, capture: &Capture, way: Way) -> Result<Tally, Difference> {
+pub fn run(opening: Opening, capture: &Capture, way: Way) -> Result<Tally, Difference> {
     let mut pair = Pair::open(opening);
     let mut tally = Tally {
         packets: capture.len() as u64,

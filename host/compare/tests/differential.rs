@@ -5,9 +5,10 @@
 use compare::capture::Capture;
 use compare::feed;
 use compare::night::Manners;
-use compare::pair::Pair;
+use compare::pair::{Opening, Pair};
 use compare::steps::{self, steps, Step};
 use compare::ways::{run, Tally, Way};
+use jangsebit::Rule;
 
 const PACKETS: usize = 500;
 const CALLS: usize = 200;
@@ -48,12 +49,12 @@ fn shrunk<T: Clone>(all: &[T], differs: impl Fn(&[T]) -> bool) -> Vec<T> {
 }
 
 /// Compares the two over a capture; where they differ, says so with the packets that it takes.
-fn compare(seed: u64, opening: u32, capture: &Capture, way: Way) -> Tally {
+fn compare(seed: u64, opening: Opening, capture: &Capture, way: Way) -> Tally {
     let difference = match run(opening, capture, way) {
         Ok(tally) => return tally,
         Err(difference) => difference,
     };
-    println!("seed {seed}, {way:?}, sessions opened at {opening}: {difference}");
+    println!("seed {seed}, {way:?}, {opening:?}: {difference}");
     let packets: Vec<&[u8]> = capture.packets().collect();
     let capture_of = |packets: &[&[u8]]| packets.iter().copied().collect::<Capture>();
     let small = capture_of(&shrunk(&packets, |few| {
@@ -158,7 +159,10 @@ fn split() {
 /// A session opened again is a fresh one, whatever it held.
 #[test]
 fn opened_again() {
-    let mut pair = Pair::open(0);
+    let mut pair = Pair::open(Opening {
+        number: 0,
+        rule: Rule::Strict,
+    });
     for seed in 0..100 {
         let (opening, capture) = feed::capture(seed, 200);
         pair.reopen(opening);
@@ -186,9 +190,17 @@ fn long_nights() {
             damaged: [0, 0, 10, 30, 10][night as usize],
             second: night > 0,
         };
-        let opening = [1, 0, 77, 4_294_900_000, 4_000_000][night as usize];
-        let manners = Manners::plain();
-        let capture = feed::lines(seed ^ night << 40, opening, 20_000, &lines, manners);
+        let opening = Opening {
+            number: [1, 0, 77, 4_294_900_000, 4_000_000][night as usize],
+            rule: [Rule::Default, Rule::Strict][night as usize % 2],
+        };
+        // New types come now and then, but in the first night.
+        let manners = Manners {
+            other: [0, 5, 5, 5, 5][night as usize],
+            ..Manners::plain()
+        };
+        let seed_of_night = seed ^ night << 40;
+        let capture = feed::lines(seed_of_night, opening.number, 20_000, &lines, manners);
         for way in [
             Way::Bursts(usize::MAX),
             Way::Bursts(64),

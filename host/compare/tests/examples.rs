@@ -188,7 +188,7 @@ fn the_capture() {
     let first = packet(10, &[add(ID, b'B', 300, 1_250_000)]);
     let beat = heartbeat(12);
     let capture: Capture = [&first[..], &beat[..]].into_iter().collect();
-    let mut session = Session::open(10);
+    let mut session = Session::open_strict(10);
     let mut lines = Vec::new();
     for packet in capture.packets() {
         let applied = session.take(packet).unwrap();
@@ -249,6 +249,42 @@ fn heartbeats_use_up_no_number() {
     assert_eq!((session.next(), session.end()), (7, 9));
     assert_eq!(session.take(&packet(7, &[execution(1, 1)])), Ok(1));
     assert_eq!(session.next(), 8);
+}
+
+/// Types that are not in the table, and 28, which is, under both rules.
+#[test]
+fn unlisted_types() {
+    let bare = |kind: u8| vec![0, 3, kind];
+    let rest = add(ID, b'B', 300, 1_250_000);
+    let kinds = [0, 10, 28, 29, 255].map(bare);
+    let messages: Vec<_> = [rest].into_iter().chain(kinds).collect();
+    let behind = packet(16, &[execution(500, 0), bare(13)]);
+
+    let mut session = Session::open(10);
+    assert!(!session.strict());
+    assert_eq!(session.take(&packet(10, &messages)), Ok(6));
+    assert_eq!((session.next(), session.unlisted()), (16, 4));
+    assert_eq!((session.faults().count, session.doubtful()), (0, false));
+    assert_eq!(session.order(&ID).unwrap().shares, 300);
+    assert_eq!(session.take(&behind), Ok(2));
+    let faults = session.faults();
+    assert_eq!((faults.number, faults.reason, faults.count), (16, 6, 1));
+    assert_eq!((session.unlisted(), session.doubtful()), (5, true));
+
+    let mut session = Session::open_strict(10);
+    assert!(session.strict());
+    assert_eq!(session.take(&packet(10, &messages)), Ok(6));
+    assert_eq!(session.order(&ID).unwrap().shares, 300);
+    assert_eq!(session.take(&behind), Ok(2));
+    let faults = session.faults();
+    assert_eq!((faults.number, faults.reason, faults.count), (11, 1, 6));
+    assert_eq!((session.unlisted(), session.doubtful()), (0, true));
+
+    for kind in [0, 10, 28, 29, 255] {
+        assert_eq!(message::read(&bare(kind)), Ok(Message::Other(kind)));
+        let refused = Message::Other(kind).write(&mut [0; 128], 0);
+        assert_eq!(refused, Err(Refusal(14)));
+    }
 }
 
 #[test]

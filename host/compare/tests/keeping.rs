@@ -1,11 +1,13 @@
 //! Keeping and applying by fixed examples, on the library and the twin at once.
 
 use compare::capture::Capture;
-use compare::pair::{Call, Pair};
+use compare::pair::{Call, Opening, Pair};
+use jangsebit::Rule;
 
 /// A message of a type and no more: an Imbalance, or one of a type that is not listed.
 const IMBALANCE: u8 = 28;
 const UNLISTED: u8 = 99;
+const RULES: [Rule; 2] = [Rule::Default, Rule::Strict];
 
 fn packet(number: u32, types: &[u8]) -> Vec<u8> {
     let size = 12 + 3 * types.len() as u16;
@@ -34,8 +36,13 @@ fn add() -> Vec<u8> {
 struct Both(Pair);
 
 impl Both {
-    fn open(number: u32) -> Both {
-        Both(Pair::open(number))
+    fn open(number: u32, rule: Rule) -> Both {
+        Both(Pair::open(Opening { number, rule }))
+    }
+
+    fn reopen(&mut self, number: u32, rule: Rule) {
+        self.0.reopen(Opening { number, rule });
+        self.agree();
     }
 
     fn keep(&mut self, packet: &[u8]) -> Result<u64, u8> {
@@ -67,11 +74,17 @@ impl Both {
         let twin = self.0.twin();
         (twin.next(), self.0.lowest().unwrap(), twin.end())
     }
+
+    /// The first fault's number and reason and the count of faults, and how many messages were counted apart.
+    fn counts(&self) -> (u64, u8, u64, u64) {
+        let (faults, unlisted) = (self.0.twin().faults(), self.0.twin().unlisted());
+        (faults.number, faults.reason, faults.count, unlisted)
+    }
 }
 
 #[test]
 fn a_full_window() {
-    let mut both = Both::open(1_000);
+    let mut both = Both::open(1_000, Rule::Default);
     let behind = packet(1_256, &[IMBALANCE]);
     assert_eq!(both.keep(&packet(1_000, &[IMBALANCE; 255])), Ok(255));
     assert_eq!(both.keep(&behind), Err(9));
@@ -94,24 +107,31 @@ fn a_full_window() {
 
 #[test]
 fn a_copy_that_differs_from_one_in_front() {
-    let mut both = Both::open(10);
-    let other = packet(11, &[UNLISTED]);
-    assert_eq!(both.keep(&packet(10, &[IMBALANCE; 3])), Ok(3));
-    assert_eq!(both.keep(&other), Err(10));
-    assert_eq!(both.take(&other), Err(10));
-    // The last of three, behind one that waits too and one that is old.
-    assert_eq!(
-        both.take(&packet(9, &[UNLISTED, IMBALANCE, UNLISTED])),
-        Err(10)
-    );
-    assert_eq!(both.numbers(), (10, 13, 13));
-    assert_eq!(both.apply(2), 2);
-    // Below next nothing is compared.
-    assert_eq!(both.keep(&other), Ok(0));
-    assert_eq!(both.keep(&packet(12, &[UNLISTED])), Err(10));
-    assert_eq!(both.keep(&packet(12, &[IMBALANCE, UNLISTED])), Ok(1));
-    assert_eq!(both.apply(u64::MAX), 2);
-    assert_eq!(both.0.twin().faults().number, 13);
+    for rule in RULES {
+        let mut both = Both::open(10, rule);
+        let other = packet(11, &[UNLISTED]);
+        assert_eq!(both.keep(&packet(10, &[IMBALANCE; 3])), Ok(3));
+        assert_eq!(both.keep(&other), Err(10));
+        assert_eq!(both.take(&other), Err(10));
+        // The last of three, behind one that waits too and one that is old.
+        assert_eq!(
+            both.take(&packet(9, &[UNLISTED, IMBALANCE, UNLISTED])),
+            Err(10)
+        );
+        assert_eq!(both.numbers(), (10, 13, 13));
+        assert_eq!(both.apply(2), 2);
+        // Below next nothing is compared.
+        assert_eq!(both.keep(&other), Ok(0));
+        assert_eq!(both.keep(&packet(12, &[UNLISTED])), Err(10));
+        assert_eq!(both.keep(&packet(12, &[IMBALANCE, UNLISTED])), Ok(1));
+        assert_eq!(both.counts(), (0, 0, 0, 0));
+        assert_eq!(both.apply(u64::MAX), 2);
+        let counts = match rule {
+            Rule::Default => (0, 0, 0, 1),
+            Rule::Strict => (13, 1, 1, 0),
+        };
+        assert_eq!(both.counts(), counts);
+    }
 }
 
 #[test]
@@ -124,14 +144,14 @@ fn what_waits_in_front_is_taken_along() {
         packet(11, &[IMBALANCE]),
         packet(14, &[IMBALANCE]),
     ] {
-        let mut both = Both::open(10);
+        let mut both = Both::open(10, Rule::Default);
         assert_eq!(both.keep(&packet(10, &[IMBALANCE; 2])), Ok(2));
         assert_eq!(both.keep(&heartbeat(15)), Ok(0));
         assert_eq!(both.numbers(), (10, 12, 15));
         assert_eq!(both.take(&taken), Ok(2), "{taken:02x?}");
         assert_eq!(both.numbers(), (12, 12, 15));
     }
-    let mut both = Both::open(10);
+    let mut both = Both::open(10, Rule::Strict);
     assert_eq!(both.keep(&packet(10, &[IMBALANCE; 2])), Ok(2));
     assert_eq!(both.keep(&packet(13, &[IMBALANCE; 2])), Ok(2));
     assert_eq!(both.take(&packet(12, &[IMBALANCE; 2])), Ok(5));
@@ -147,7 +167,7 @@ fn a_refused_take_applies_nothing() {
     short[13] = 2;
     let mut beating = packet(12, &[IMBALANCE]);
     beating[6] = 1;
-    let mut both = Both::open(10);
+    let mut both = Both::open(10, Rule::Strict);
     assert_eq!(both.keep(&packet(10, &[IMBALANCE; 2])), Ok(2));
     for (refused, number) in [
         (vec![0; 11], 1),
@@ -170,7 +190,7 @@ fn a_refused_take_applies_nothing() {
 
 #[test]
 fn missing_numbers_while_messages_wait_in_front() {
-    let mut both = Both::open(10);
+    let mut both = Both::open(10, Rule::Strict);
     assert_eq!(both.keep(&packet(10, &[IMBALANCE; 2])), Ok(2));
     assert_eq!(both.keep(&packet(100, &[IMBALANCE])), Ok(1));
     assert_eq!(both.keep(&heartbeat(1_000)), Ok(0));
@@ -185,7 +205,7 @@ fn missing_numbers_while_messages_wait_in_front() {
 /// A packet that starts at or below next moves the lowest number that was not carried, and leaves next.
 #[test]
 fn next_stays_until_messages_are_applied() {
-    let mut both = Both::open(10);
+    let mut both = Both::open(10, Rule::Default);
     assert_eq!(both.keep(&packet(12, &[IMBALANCE])), Ok(1));
     assert_eq!(both.numbers(), (10, 10, 13));
     assert_eq!(both.keep(&packet(9, &[IMBALANCE; 3])), Ok(2));
@@ -197,20 +217,89 @@ fn next_stays_until_messages_are_applied() {
 #[test]
 fn an_order_is_live_when_its_message_is_applied() {
     let id = b"7A400CY528L9SN";
-    let mut both = Both::open(1);
-    assert_eq!(both.keep(&add()), Ok(1));
-    assert_eq!(both.0.order(id), Ok(false));
-    assert_eq!(both.keep(&packet(2, &[UNLISTED; 2])), Ok(2));
-    assert_eq!(both.0.twin().faults().count, 0);
-    assert_eq!(both.apply(2), 2);
-    assert_eq!(both.0.order(id), Ok(true));
-    assert_eq!(both.0.twin().faults().count, 1);
-    assert_eq!(both.0.twin().faults().number, 2);
+    for rule in RULES {
+        let mut both = Both::open(1, rule);
+        assert_eq!(both.keep(&add()), Ok(1));
+        assert_eq!(both.0.order(id), Ok(false));
+        assert_eq!(both.keep(&packet(2, &[UNLISTED; 2])), Ok(2));
+        assert_eq!(both.counts(), (0, 0, 0, 0));
+        assert_eq!(both.apply(2), 2);
+        assert_eq!(both.0.order(id), Ok(true));
+        let counts = match rule {
+            Rule::Default => (0, 0, 0, 1),
+            Rule::Strict => (2, 1, 1, 0),
+        };
+        assert_eq!(both.counts(), counts);
+    }
+}
+
+/// A message of each type there is: it counts where it is applied, as its rule has it.
+#[test]
+fn every_type_under_both_rules() {
+    let listed = [9, 11, 12, 20, 21, 22, 23, 24, 25, 26, 27, 28];
+    for rule in RULES {
+        for kind in 0..=255 {
+            let mut long = vec![0, 140, 0, 0, 0, 5, 0, 1, 0, 0, 0, 9, 0, 128, kind];
+            long.resize(140, 0);
+            let (mut both, mut taken) = (Both::open(5, rule), Both::open(5, rule));
+            assert_eq!(both.keep(&long), Ok(1));
+            assert_eq!(both.counts(), (0, 0, 0, 0));
+            assert_eq!(both.apply(1), 1);
+            assert_eq!(taken.take(&long), Ok(1));
+            let counts = match (rule, kind) {
+                (_, 20..=27) => (5, 2, 1, 0),
+                (_, kind) if listed.contains(&kind) => (0, 0, 0, 0),
+                (Rule::Default, _) => (0, 0, 0, 1),
+                (Rule::Strict, _) => (5, 1, 1, 0),
+            };
+            assert_eq!(both.counts(), counts, "{kind}");
+            assert_eq!(taken.counts(), counts, "{kind}");
+            assert_eq!(both.numbers(), (6, 6, 6));
+            assert_eq!(both.0.twin().doubtful(), counts.2 > 0);
+        }
+    }
+}
+
+/// Types that are not listed before, between and behind faults, and the opening behind them.
+#[test]
+fn unlisted_types_beside_faults() {
+    let mut faulty = packet(12, &[]);
+    faulty.extend([0, 12, 20, 0, 0, 0, 0, 0, 0, 0, 0, 7]);
+    faulty[1] = 24;
+    faulty[7] = 1;
+    let mut again = faulty.clone();
+    again[5] = 14;
+    let mut both = Both::open(10, Rule::Default);
+    for first in RULES {
+        for second in RULES {
+            both.reopen(10, first);
+            assert_eq!(both.counts(), (0, 0, 0, 0));
+            assert_eq!(both.take(&packet(10, &[0, 10])), Ok(2));
+            assert_eq!(both.take(&faulty), Ok(1));
+            assert_eq!(both.keep(&packet(13, &[29])), Ok(1));
+            assert_eq!(both.take(&again), Ok(2));
+            assert_eq!(both.take(&packet(15, &[IMBALANCE, 255])), Ok(2));
+            let counts = match first {
+                Rule::Default => (12, 2, 2, 4),
+                Rule::Strict => (10, 1, 6, 0),
+            };
+            assert_eq!(both.counts(), counts);
+            // Nothing of the first opening stays, its rule neither.
+            both.reopen(20, second);
+            assert_eq!(both.counts(), (0, 0, 0, 0));
+            assert_eq!(both.take(&packet(20, &[UNLISTED; 3])), Ok(3));
+            let counts = match second {
+                Rule::Default => (0, 0, 0, 3),
+                Rule::Strict => (20, 1, 3, 0),
+            };
+            assert_eq!(both.counts(), counts);
+        }
+    }
 }
 
 #[test]
 fn the_last_numbers() {
-    let mut both = Both::open(u32::MAX - 1);
+    let mut both = Both::open(u32::MAX - 1, Rule::Default);
     let two = packet(u32::MAX - 1, &[IMBALANCE; 2]);
     assert_eq!(both.keep(&two), Ok(2));
     assert_eq!(both.numbers(), ((1 << 32) - 2, 1 << 32, 1 << 32));
@@ -225,13 +314,14 @@ fn the_last_numbers() {
 /// Nothing of a session that was opened again is applied, and nothing of it is compared.
 #[test]
 fn opened_again_while_messages_wait() {
-    let mut both = Both::open(10);
-    assert_eq!(both.keep(&packet(10, &[UNLISTED; 255])), Ok(255));
-    both.0.reopen(12);
-    both.agree();
-    assert_eq!(both.apply(u64::MAX), 0);
-    assert_eq!(both.keep(&packet(12, &[IMBALANCE; 2])), Ok(2));
-    assert_eq!(both.numbers(), (12, 14, 14));
+    for [first, second] in [RULES, [Rule::Strict, Rule::Default]] {
+        let mut both = Both::open(10, first);
+        assert_eq!(both.keep(&packet(10, &[UNLISTED; 255])), Ok(255));
+        both.reopen(12, second);
+        assert_eq!(both.apply(u64::MAX), 0);
+        assert_eq!(both.keep(&packet(12, &[IMBALANCE; 2])), Ok(2));
+        assert_eq!(both.numbers(), (12, 14, 14));
+    }
 }
 
 #[test]
@@ -247,9 +337,9 @@ fn a_burst_that_keeps() {
         packet(265, &[IMBALANCE]),
     ];
     let capture: Capture = packets.iter().map(|packet| &packet[..]).collect();
-    let mut both = Both::open(10);
-    for told in [0, 1, 3, 8, 9] {
-        both.0.reopen(10);
+    let mut both = Both::open(10, Rule::Default);
+    for (told, rule) in [0, 1, 3, 8, 9].into_iter().zip(RULES.into_iter().cycle()) {
+        both.reopen(10, rule);
         let few = packets.iter().map(|packet| &packet[..]).take(told);
         both.0
             .burst(Call::Keep, capture.bytes(), few, told)

@@ -1,9 +1,10 @@
-//! That the generated captures reach every refusal, every fault and both full tables, and the generated calls what
-//! comes up only where messages wait that could be applied.
+//! That the generated captures reach every refusal, every fault, both full tables and both rules, and the generated
+//! calls what comes up only where messages wait that could be applied.
 
 use compare::feed;
-use compare::pair::Call;
+use compare::pair::{Call, Opening};
 use compare::steps::{steps, Step};
+use jangsebit::Rule;
 use twin::packet::read_header;
 use twin::{Refusal, Session};
 
@@ -15,7 +16,7 @@ fn every_case_comes_up() {
     let (mut full, mut insides, mut tops) = (0, 0, 0);
     for seed in 0..300 {
         let (opening, capture) = feed::capture(seed, 400);
-        let mut session = Box::new(Session::open(opening));
+        let mut session = Box::new(opening.twin());
         for packet in capture.packets() {
             packets += 1;
             match session.take(packet) {
@@ -38,6 +39,63 @@ fn every_case_comes_up() {
     assert!(refusals[1..].iter().all(|count| *count > 0));
     assert!(faults.iter().all(|count| *count > 0));
     assert!(full > 0 && insides > 0 && tops > 0);
+}
+
+/// What captures have of types that are not listed, each with how often.
+#[derive(Debug, Default)]
+struct Unlisted {
+    /// Captures whose sessions open by default, and strict.
+    openings: [u64; 2],
+    /// Such messages applied under each rule.
+    messages: [u64; 2],
+    /// Under the strict rule: one is the first fault, another fault is.
+    first: u64,
+    other_first: u64,
+    /// By default: counted before the first fault, and behind it; sessions that counted and are not doubtful.
+    before: u64,
+    behind: u64,
+    clean: u64,
+}
+
+#[test]
+fn unlisted_types_come_up_under_both_rules() {
+    let mut met = Unlisted::default();
+    for seed in 0..300 {
+        let (opening, capture) = feed::capture(seed, 400);
+        let [mut default, mut strict] =
+            [Rule::Default, Rule::Strict].map(|rule| Box::new(Opening { rule, ..opening }.twin()));
+        let chosen = (opening.rule == Rule::Strict) as usize;
+        let mut behind = 0;
+        for packet in capture.packets() {
+            let (unlisted, faulted) = (default.unlisted(), default.doubtful());
+            assert_eq!(default.take(packet), strict.take(packet));
+            let more = default.unlisted() - unlisted;
+            behind += faulted as u64 * more;
+            met.before += (chosen == 0 && !faulted && default.doubtful() && unlisted > 0) as u64;
+        }
+        // The rules differ in where a message is counted, and in nothing else.
+        let (counted, faults) = (default.unlisted(), default.faults());
+        assert_eq!(strict.unlisted(), 0);
+        assert_eq!(strict.faults().count, faults.count + counted);
+        assert_ne!(faults.reason, 1);
+        assert!(default.book().live_orders().eq(strict.book().live_orders()));
+        assert_eq!(default.book().held_insides(), strict.book().held_insides());
+        assert_eq!(default.code(), strict.code());
+        met.openings[chosen] += 1;
+        met.messages[chosen] += counted;
+        if chosen == 1 {
+            met.first += (strict.faults().reason == 1) as u64;
+            met.other_first += (counted > 0 && strict.faults().reason > 1) as u64;
+        } else {
+            met.behind += behind;
+            met.clean += (counted > 0 && !default.doubtful()) as u64;
+        }
+    }
+    println!("{met:#?}");
+    assert!(met.openings.iter().all(|count| *count > 100));
+    assert!(met.messages.iter().all(|count| *count > 1_000));
+    assert!(met.first > 10 && met.other_first > 10);
+    assert!(met.before > 10 && met.behind > 1_000 && met.clean > 5);
 }
 
 /// What calls that keep and apply come upon, each with how often.
@@ -66,6 +124,11 @@ struct Met {
     end_beyond: u64,
     /// Opened again while a message waits.
     again: u64,
+    /// Opened again, from and to each rule; where the session had counted types that are not listed, or had one of them
+    /// as its first fault.
+    rules: [[u64; 2]; 2],
+    counted: u64,
+    faulted: u64,
 }
 
 impl Met {
@@ -108,6 +171,15 @@ impl Met {
         self.up_to_gap += (applied > 0 && applied == ready && session.waiting() > 0) as u64;
         self.last_number += (applied > 0 && session.next() == 1 << 32) as u64;
     }
+
+    fn open(&mut self, session: &mut Session, opening: Opening) {
+        self.again += (session.waiting() > 0) as u64;
+        let strict = opening.rule == Rule::Strict;
+        self.rules[session.strict() as usize][strict as usize] += 1;
+        self.counted += (session.unlisted() > 0) as u64;
+        self.faulted += (session.faults().reason == 1) as u64;
+        *session = opening.twin();
+    }
 }
 
 #[test]
@@ -122,10 +194,7 @@ fn every_case_of_keeping_and_applying_comes_up() {
                     .packets()
                     .for_each(|packet| met.packet(&mut session, call, packet)),
                 Step::Apply(count) => met.apply(&mut session, count),
-                Step::Open(number) => {
-                    met.again += (session.waiting() > 0) as u64;
-                    *session = Session::open(number);
-                }
+                Step::Open(opening) => met.open(&mut session, opening),
             }
         }
     }
@@ -146,6 +215,9 @@ fn every_case_of_keeping_and_applying_comes_up() {
         last_number,
         end_beyond,
         again,
+        rules,
+        counted,
+        faulted,
     } = met;
     let often = [full, nine, ten, ten_in_front, some_fresh, none_fresh];
     assert!(often.iter().all(|count| *count > 100), "{often:?}");
@@ -154,4 +226,6 @@ fn every_case_of_keeping_and_applying_comes_up() {
     let applied = [nothing, portion, up_to_gap, last_number];
     assert!(applied.iter().all(|count| *count > 20), "{applied:?}");
     assert!(end_beyond > 20 && again > 20);
+    assert!(rules.as_flattened().iter().all(|count| *count > 20));
+    assert!(counted > 20 && faulted > 20);
 }

@@ -21,6 +21,9 @@
 //! A loop that must not apply too many messages at once keeps packets as they come and applies what waits in portions:
 //! [`Session::keep`] and [`Session::apply`].
 //!
+//! A venue gets new types of messages now and then. One that is not listed here is applied without effect and counted,
+//! and the book stays as good as it was; [`Session::open_strict`] opens a session that has it as a fault. See [`Rule`].
+//!
 //! Packets of 12 to 1,472 bytes, messages of 3 to 128, 256 numbers that can wait, 256 live orders, 64 insides. Sockets, login,
 //! order entry and text channels are the host's.
 #![deny(missing_docs)]
@@ -37,6 +40,6 @@ mod wire;
 pub use answers::{Answer, Applied, Burst, Kept, Question, Quote};
 pub use message::{Message, Terms};
 pub use refusal::{Fault, Refusal, UnknownNumber};
-pub use session::{Faults, Gap, Gaps, Numbers, Session};
+pub use session::{Faults, Gap, Gaps, Numbers, Rule, Session};
 pub use tables::{symbol, Inside, Level, Order, Side};
 pub use wire::{id_value, judge, walk, Header, Messages, Refused};

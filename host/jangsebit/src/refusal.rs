@@ -117,7 +117,7 @@ numbered! {
     /// assert!(Fault::try_from(9).is_err());
     /// ```
     Fault {
-        /// A type that has no entry in the table of types.
+        /// A type that is not listed, in a session that was opened under the strict rule.
         UnlistedType = 1, "the message's type is not listed";
         /// A field that breaks its rule.
         BrokenRule = 2, "a field breaks its rule";

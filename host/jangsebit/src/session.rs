@@ -9,7 +9,7 @@ use std::iter::FusedIterator;
 
 /// One channel of the feed: two lines and retransmissions merged by number, each message applied once and in order.
 ///
-/// A session is 61,456 bytes in a box, and no call allocates behind its opening. It can be sent to another thread and
+/// A session is 61,472 bytes in a box, and no call allocates behind its opening. It can be sent to another thread and
 /// copied with all it holds. Two sessions are equal exactly if they hold the same: tables, waiting messages, numbers.
 ///
 /// ```
@@ -38,7 +38,7 @@ const _: () = {
 };
 
 /// The exports that this crate was written for.
-const VERSION: u32 = 2;
+const VERSION: u32 = 3;
 
 impl Session {
     /// How many orders can be live.
@@ -59,23 +59,59 @@ impl Session {
     /// Bytes that hold all requests there can be: every second number of the window is missing.
     pub const REQUESTS: usize = Self::REQUEST * Self::WINDOW as usize / 2;
 
-    /// A fresh session: `number` is the first that it waits for.
+    /// A fresh session: `number` is the first that it waits for. Its rule is [`Rule::Default`]: a message of a type
+    /// that is not listed is applied without effect and counted apart.
     ///
     /// # Panics
     ///
     /// Where the archive that was linked has other exports or sizes than this crate.
     pub fn open(number: u32) -> Session {
+        Session::opened(number, Rule::Default)
+    }
+
+    /// The same under [`Rule::Strict`]: a message of a type that is not listed is a fault.
+    ///
+    /// # Panics
+    ///
+    /// As [`open`](Session::open).
+    ///
+    /// ```
+    /// use jangsebit::{Fault, Refusal, Rule, Session};
+    ///
+    /// // A message of type 99, number 5.
+    /// let packet = [0, 15, 0, 0, 0, 5, 0, 1, 0, 0, 0, 0, 0, 3, 99];
+    /// let mut session = Session::open_strict(5);
+    /// assert_eq!(session.rule(), Rule::Strict);
+    /// session.take(&packet)?;
+    /// assert_eq!(session.numbers().faults.first(), Some((5, Fault::UnlistedType)));
+    /// assert!(session.doubtful() && session.unlisted() == 0);
+    ///
+    /// let mut session = Session::open(5);
+    /// session.take(&packet)?;
+    /// assert!(!session.doubtful() && session.unlisted() == 1);
+    /// # Ok::<(), Refusal>(())
+    /// ```
+    pub fn open_strict(number: u32) -> Session {
+        Session::opened(number, Rule::Strict)
+    }
+
+    fn opened(number: u32, rule: Rule) -> Session {
         assert_eq!(sys::version(), VERSION, "the version of the library");
         assert_eq!(sys::sizes(), sys::SIZES, "the sizes of the library");
         Session {
-            memory: Memory::opened(number),
+            memory: Memory::opened(number, rule),
         }
     }
 
-    /// Opens the session again, in the memory that it has: all it held is gone. For the next night, and where the
-    /// venue starts its numbers again.
+    /// Opens the session again, in the memory that it has: all it held is gone, and its rule is [`Rule::Default`]. For
+    /// the next night, and where the venue starts its numbers again.
     pub fn reopen(&mut self, number: u32) {
-        self.memory.open(number);
+        self.memory.open(number, Rule::Default);
+    }
+
+    /// The same under [`Rule::Strict`].
+    pub fn reopen_strict(&mut self, number: u32) {
+        self.memory.open(number, Rule::Strict);
     }
 
     /// Takes one packet, from either line or from retransmission: [`keep`](Session::keep)s it and, unless that is
@@ -264,6 +300,40 @@ impl Session {
         self.memory.numbers()
     }
 
+    /// Whether the book is doubtful: at least one message faulted since the opening.
+    #[inline]
+    pub fn doubtful(&self) -> bool {
+        self.numbers().doubtful()
+    }
+
+    /// The rule for types that are not listed. It is the opening's, and stays until the next.
+    #[inline]
+    pub fn rule(&self) -> Rule {
+        match self.memory.rule() {
+            0 => Rule::Default,
+            _ => Rule::Strict,
+        }
+    }
+
+    /// How many messages of types that are not listed were applied since the opening, without effect and without a
+    /// fault. Always 0 under [`Rule::Strict`]. A count that is not 0 says that the venue has types which this library
+    /// does not know.
+    ///
+    /// ```
+    /// use jangsebit::{Refusal, Session};
+    ///
+    /// let mut session = Session::open(1);
+    /// // Three messages: an Imbalance, which is listed, and types 10 and 29, which are not.
+    /// session.take(&[0, 21, 0, 0, 0, 1, 0, 3, 0, 0, 0, 0, 0, 3, 28, 0, 3, 10, 0, 3, 29])?;
+    /// assert_eq!((session.numbers().next, session.unlisted()), (4, 2));
+    /// assert!(!session.doubtful());
+    /// # Ok::<(), Refusal>(())
+    /// ```
+    #[inline]
+    pub fn unlisted(&self) -> u64 {
+        self.memory.unlisted()
+    }
+
     /// The best price of a symbol on a side, a [`Side`](crate::Side) or its byte.
     ///
     /// # Errors
@@ -398,8 +468,23 @@ fn burst([refusal, packets, bytes]: [u64; 3]) -> Result<Burst, Refusal> {
 
 impl fmt::Debug for Session {
     fn fmt(&self, f: &mut fmt::Formatter<'_>) -> fmt::Result {
-        f.debug_tuple("Session").field(&self.numbers()).finish()
+        f.debug_struct("Session")
+            .field("numbers", &self.numbers())
+            .field("rule", &self.rule())
+            .field("unlisted", &self.unlisted())
+            .finish()
     }
+}
+
+/// What an opening makes of messages whose type is not listed. Under either rule their numbers are applied and the
+/// tables stay.
+#[derive(Clone, Copy, Debug, Default, PartialEq, Eq, Hash)]
+pub enum Rule {
+    /// They are no fault, and counted apart: see [`Session::unlisted`].
+    #[default]
+    Default,
+    /// They are faults, [`Fault::UnlistedType`], and not in that count.
+    Strict,
 }
 
 /// The numbers of a session, as the library writes them: none is moved on its way.
@@ -420,6 +505,14 @@ pub struct Numbers {
     pub faults: Faults,
 }
 
+impl Numbers {
+    /// Whether the book is doubtful: the count of faults is not 0.
+    #[inline]
+    pub fn doubtful(&self) -> bool {
+        self.faults.count != 0
+    }
+}
+
 /// The faults since the opening.
 #[repr(C)]
 #[derive(Clone, Copy, Debug, PartialEq, Eq)]
@@ -438,9 +531,9 @@ impl Faults {
     ///
     /// let mut session = Session::open(5);
     /// assert_eq!(session.numbers().faults.first(), None);
-    /// // A message of type 99, number 5: it counts, and changes nothing.
-    /// session.take(&[0, 15, 0, 0, 0, 5, 0, 1, 0, 0, 0, 0, 0, 3, 99]).unwrap();
-    /// assert_eq!(session.numbers().faults.first(), Some((5, Fault::UnlistedType)));
+    /// // A Trading Session whose code is 7, number 5: it counts, and changes nothing.
+    /// session.take(&[0, 24, 0, 0, 0, 5, 0, 1, 0, 0, 0, 0, 0, 12, 20, 0, 0, 0, 0, 0, 0, 0, 0, 7]).unwrap();
+    /// assert_eq!(session.numbers().faults.first(), Some((5, Fault::BrokenRule)));
     /// assert_eq!(session.numbers().next, 6);
     /// ```
     #[inline]

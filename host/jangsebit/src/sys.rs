@@ -6,14 +6,14 @@
 #![allow(unsafe_code)]
 
 use crate::answers::{Answer, Question, Quote};
-use crate::session::Numbers;
+use crate::session::{Numbers, Rule};
 use crate::tables::Order;
 use std::mem::MaybeUninit;
 
 /// How many orders can be live.
 pub const ORDERS: usize = 256;
-/// The numbers beside them: next, end, counts, code, faults, look-ups, insides.
-const ROOM: usize = 2_306;
+/// The numbers beside them: next, end, counts, code, faults, rule, look-ups, insides.
+const ROOM: usize = 2_308;
 /// A longest message for each number that can wait.
 const WINDOW: usize = 32_768;
 
@@ -34,9 +34,9 @@ pub struct Memory {
 const _: () = {
     assert!(size_of::<Order>() == 40 && align_of::<Order>() == 8);
     assert!(size_of::<Orders>() == 10_240);
-    assert!(size_of::<Room>() == 18_448 && align_of::<Room>() == 8);
+    assert!(size_of::<Room>() == 18_464 && align_of::<Room>() == 8);
     assert!(size_of::<Window>() == 32_768 && align_of::<Window>() == 1);
-    assert!(size_of::<Memory>() == 61_456 && align_of::<Memory>() == 8);
+    assert!(size_of::<Memory>() == 61_472 && align_of::<Memory>() == 8);
     assert!(
         size_of::<Answer>() == 4 * size_of::<u64>() && align_of::<Answer>() == align_of::<u64>()
     );
@@ -69,6 +69,12 @@ pub const SIZES: [u64; 12] = {
 extern "C" {
     fn jangsebit_version() -> u32;
     fn jangsebit_open(session: *mut Orders, room: *mut Room, window: *mut Window, number: u32);
+    fn jangsebit_open_strict(
+        session: *mut Orders,
+        room: *mut Room,
+        window: *mut Window,
+        number: u32,
+    );
     fn jangsebit_pass(
         room: *mut Room,
         window: *mut Window,
@@ -128,6 +134,8 @@ extern "C" {
     ) -> u64;
     fn jangsebit_inside(room: *const Room, symbol: *const [u8; 14], told: *mut [u64; 6]) -> u64;
     fn jangsebit_numbers(room: *const Room, told: *mut [u64; 8]);
+    fn jangsebit_rule(room: *const Room) -> u64;
+    fn jangsebit_unlisted(room: *const Room) -> u64;
     fn jangsebit_requests(
         room: *const Room,
         window: *const Window,
@@ -181,21 +189,25 @@ impl Memory {
         &self.orders
     }
 
-    /// A session opened at a number.
-    pub fn opened(number: u32) -> Box<Memory> {
+    /// A session opened at a number, under a rule.
+    pub fn opened(number: u32, rule: Rule) -> Box<Memory> {
         let mut memory = Box::new(Memory {
             orders: [Order::NONE; ORDERS],
             room: [0; ROOM],
             window: [0; WINDOW],
         });
-        memory.open(number);
+        memory.open(number, rule);
         memory
     }
 
     /// Whatever stood in the memory is gone.
-    pub fn open(&mut self, number: u32) {
+    pub fn open(&mut self, number: u32, rule: Rule) {
+        let open = match rule {
+            Rule::Default => jangsebit_open,
+            Rule::Strict => jangsebit_open_strict,
+        };
         // SAFETY: as above; an opening asks for the sizes alone.
-        unsafe { jangsebit_open(&mut self.orders, &mut self.room, &mut self.window, number) }
+        unsafe { open(&mut self.orders, &mut self.room, &mut self.window, number) }
     }
 
     /// A packet that does not carry next, while nothing waits there: told are 1 where it was kept, 2 and the refusal
@@ -352,6 +364,20 @@ impl Memory {
             jangsebit_numbers(&self.room, told.as_mut_ptr().cast());
             told.assume_init()
         }
+    }
+
+    /// 0 where the opening was the default one, 1 where it was strict.
+    #[inline]
+    pub fn rule(&self) -> u64 {
+        // SAFETY: as above.
+        unsafe { jangsebit_rule(&self.room) }
+    }
+
+    /// How many messages of unlisted types were counted apart.
+    #[inline]
+    pub fn unlisted(&self) -> u64 {
+        // SAFETY: as above.
+        unsafe { jangsebit_unlisted(&self.room) }
     }
 
     /// The refusal, and how many requests were written.

@@ -1,6 +1,8 @@
 //! Document 01's worked examples through the crate, and what a host relies on beside them.
 
-use jangsebit::{id_value, symbol, Answer, Fault, Gap, Level, Refusal, Session, Side};
+use jangsebit::{
+    id_value, symbol, Answer, Fault, Gap, Level, Message, Refusal, Rule, Session, Side,
+};
 
 const ID: [u8; 14] = *b"7A400CY528L9SN";
 
@@ -198,7 +200,7 @@ fn the_best_price() {
 
 #[test]
 fn the_capture() {
-    let mut session = Session::open(10);
+    let mut session = Session::open_strict(10);
     let first = packet(10, &[add(ID, b'B', 300, 1_250_000)]);
     let mut lines = Vec::new();
     for packet in [first, heartbeat(12)] {
@@ -212,6 +214,55 @@ fn the_capture() {
         count: 1,
     };
     assert_eq!(session.gaps().collect::<Vec<_>>(), [gap]);
+}
+
+/// Types that are not listed, and 28, which is, under both rules.
+#[test]
+fn unlisted_types() {
+    let kinds = [0, 10, 28, 29, 255];
+    let messages: Vec<_> = kinds.iter().map(|kind| message(*kind, &[])).collect();
+    let first = packet(1, &[add(ID, b'B', 300, 1_250_000)]);
+    let many = packet(2, &messages);
+    let fault = packet(7, &[execution(500, 0), message(99, &[])]);
+
+    let mut session = opened(1, &[first.clone(), many.clone()]);
+    assert_eq!((session.rule(), session.unlisted()), (Rule::Default, 4));
+    assert_eq!(session.numbers().faults.first(), None);
+    assert!(!session.doubtful() && !session.numbers().doubtful());
+    assert_eq!(session.numbers().next, 7);
+    assert_eq!(session.order(&ID).map(|order| order.shares), Ok(300));
+    assert_eq!(taken(&mut session, &fault), Ok(2));
+    let faults = session.numbers().faults;
+    assert_eq!(faults.first(), Some((7, Fault::ExecutedTooMany)));
+    assert_eq!((faults.count, session.unlisted()), (1, 5));
+    assert!(session.doubtful() && session.numbers().doubtful());
+
+    let mut strict = Session::open_strict(1);
+    assert_eq!((strict.rule(), strict.unlisted()), (Rule::Strict, 0));
+    for packet in [&first, &many, &fault] {
+        taken(&mut strict, packet).unwrap();
+    }
+    let faults = strict.numbers().faults;
+    assert_eq!(faults.first(), Some((2, Fault::UnlistedType)));
+    assert_eq!((faults.count, strict.unlisted()), (6, 0));
+    assert!(strict.doubtful());
+    assert_eq!(strict.rule(), Rule::Strict);
+    assert_eq!(strict.orders(), session.orders());
+
+    // The rule is the last opening's.
+    assert_ne!(Session::open(1), Session::open_strict(1));
+    strict.reopen(1);
+    assert_eq!(strict, Session::open(1));
+    session.reopen_strict(1);
+    assert_eq!(session, Session::open_strict(1));
+    assert!(!session.doubtful());
+
+    let mut buffer = [0; 128];
+    for kind in kinds {
+        let other = Message::read(&message(kind, &[])).unwrap();
+        assert_eq!(other, Message::Other(kind));
+        assert_eq!(other.write(&mut buffer, 0), Err(Refusal::BadField));
+    }
 }
 
 /// A window full of messages that wait, applied in portions.

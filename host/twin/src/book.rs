@@ -11,6 +11,8 @@ pub const INSIDES: usize = 64;
 const BUCKETS: usize = 512;
 const SLOTS: usize = 128;
 const NOWHERE: u16 = u16::MAX;
+/// The fault of a type that is not in the table; whether it is one, the session's rule says.
+pub const UNLISTED: u8 = 1;
 /// Spreads keys by their product's upper bits.
 const SPREAD: u64 = 0x9e37_79b9_7f4a_7c15;
 
@@ -115,7 +117,7 @@ impl Book {
             26 => self.top(payload),
             27 => trade(payload),
             9 | 11 | 12 | 28 => 0,
-            _ => 1,
+            _ => UNLISTED,
         }
     }
 

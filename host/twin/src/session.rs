@@ -1,6 +1,6 @@
 //! A session: two lines and retransmissions merged by number, each message applied once, in order.
 
-use super::book::{Best, Book, Faults, Inside, Order};
+use super::book::{Best, Book, Faults, Inside, Order, UNLISTED};
 use super::packet::{messages_good, read_header, Messages};
 use super::Refusal;
 
@@ -11,6 +11,9 @@ pub struct Session {
     /// The lowest number not applied.
     next: u64,
     end: u64,
+    /// Whether a type that is not in the table is fault 1; else it is counted in `unlisted`.
+    strict: bool,
+    unlisted: u64,
     faults: Faults,
     book: Book,
     /// How many places of the window are taken.
@@ -27,9 +30,20 @@ fn place_of(number: u64) -> usize {
 
 impl Session {
     pub fn open(number: u32) -> Session {
+        Session::opened(number, false)
+    }
+
+    /// Opens under the strict rule.
+    pub fn open_strict(number: u32) -> Session {
+        Session::opened(number, true)
+    }
+
+    fn opened(number: u32, strict: bool) -> Session {
         Session {
             next: number as u64,
             end: number as u64,
+            strict,
+            unlisted: 0,
             faults: Faults::default(),
             book: Book::new(),
             waiting: 0,
@@ -149,13 +163,22 @@ impl Session {
     #[inline(always)]
     fn step(&mut self, fault: u8) {
         if fault != 0 {
-            if self.faults.count == 0 {
-                self.faults.number = self.next;
-                self.faults.reason = fault;
-            }
-            self.faults.count += 1;
+            self.count(fault);
         }
         self.next += 1;
+    }
+
+    #[inline(always)]
+    fn count(&mut self, fault: u8) {
+        if fault == UNLISTED && !self.strict {
+            self.unlisted += 1;
+            return;
+        }
+        if self.faults.count == 0 {
+            self.faults.number = self.next;
+            self.faults.reason = fault;
+        }
+        self.faults.count += 1;
     }
 
     fn copy(&self, number: u64) -> &[u8] {
@@ -196,6 +219,21 @@ impl Session {
 
     pub fn faults(&self) -> Faults {
         self.faults
+    }
+
+    /// Whether the book is doubtful: something faulted.
+    pub fn doubtful(&self) -> bool {
+        self.faults.count != 0
+    }
+
+    /// Whether the opening asked for the strict rule.
+    pub fn strict(&self) -> bool {
+        self.strict
+    }
+
+    /// How many messages of a type that is not in the table were applied and are no fault.
+    pub fn unlisted(&self) -> u64 {
+        self.unlisted
     }
 
     pub fn book(&self) -> &Book {

@@ -38,6 +38,7 @@ use denote.Triple.Table.{entered, cited}
 use denote.Triple.Walked.{needs, Stays, walkOf, AllGo, Walks, ends-at, walked, walk-meets}
 use denote.Exit.{yes}
 use Rattle.merge.specs.State.{applySome}
+use Rattle.book_room.specs.Room.{roomSize}
 use Rattle.session.specs.Meaning.{Held, held, nextIn, overnight, rep, view, Ruled}
 use Rattle.session.specs.Bursts.{appliedBy}
 use Rattle.session.specs.declared.state.Session.{Session}
@@ -66,7 +67,7 @@ use Rattle.exports.proofs.jangsebit_apply.Statement as stated
 use Rattle.exports.proofs.jangsebit_apply.Code as code
 
 abbrev stayed : Stays (f.ended .signature .params) (f.ended .kept)
-stayed = (passed (mutRefTo (0 ∷ []) tt (plain (λ _. T.the-row))) yes, (passed (mutRefTo (1 ∷ []) tt (ArrayOf (plain (λ _. u64)) (λ _. tt) 2306)) yes, (passed (mutRefTo (2 ∷ []) tt (ArrayOf (plain (λ _. u8)) (λ _. tt) 32768)) yes, (passed (plain (λ _. u64)) yes, tt))))
+stayed = (passed (mutRefTo (0 ∷ []) tt (plain (λ _. T.the-row))) yes, (passed (mutRefTo (1 ∷ []) tt (ArrayOf (plain (λ _. u64)) (λ _. tt) roomSize)) yes, (passed (mutRefTo (2 ∷ []) tt (ArrayOf (plain (λ _. u8)) (λ _. tt) 32768)) yes, (passed (plain (λ _. u64)) yes, tt))))
 
 due-fits : (s : Start) {v : Val} → Is St.the-row s (v ∷ []) → s .due < 2 ^ 64
 due-fits s is = LL.owed St.the-type St′.the-laws s _ is .1 .0 .1
@@ -200,7 +201,7 @@ module _ {M : Type 1} (𝓤 : URA M) (H : Heap 𝓤) (A : Atoms 𝓤) (W : Given
 
 module _ {M : Type 1} (𝓤 : URA M) (H : Heap 𝓤) (A : Atoms 𝓤) (W : Given 𝓤 H A) (at-mem : Memory → SProp 𝓤) (run : Routine → Fun 𝓤) where
   goes : AllGo 𝓤 H A W 3 (f.signature .params) (f.ended .kept) stayed
-  goes = (goes-passed 𝓤 H A W 3 (mutRefTo (0 ∷ []) tt (plain (λ _. T.the-row))) yes, (goes-passed 𝓤 H A W 3 (mutRefTo (1 ∷ []) tt (ArrayOf (plain (λ _. u64)) (λ _. tt) 2306)) yes, (goes-passed 𝓤 H A W 3 (mutRefTo (2 ∷ []) tt (ArrayOf (plain (λ _. u8)) (λ _. tt) 32768)) yes, (goes-passed 𝓤 H A W 3 (plain (λ _. u64)) yes, tt))))
+  goes = (goes-passed 𝓤 H A W 3 (mutRefTo (0 ∷ []) tt (plain (λ _. T.the-row))) yes, (goes-passed 𝓤 H A W 3 (mutRefTo (1 ∷ []) tt (ArrayOf (plain (λ _. u64)) (λ _. tt) roomSize)) yes, (goes-passed 𝓤 H A W 3 (mutRefTo (2 ∷ []) tt (ArrayOf (plain (λ _. u8)) (λ _. tt) 32768)) yes, (goes-passed 𝓤 H A W 3 (plain (λ _. u64)) yes, tt))))
 
   module _ (𝓣 : Tables 𝓤 H) (begin-known : Triple 𝓤 (𝓣 .C #begin) (Begun 𝓤 H A at-mem run)) (run-known : Triple 𝓤 (𝓣 .C #run) (Ran 𝓤 H A at-mem run)) (since-known : Triple 𝓤 (𝓣 .C #since) (Since 𝓤 H A at-mem run)) where
     apply-walks : Walks 𝓤 H A f.ended stayed (WpFn 𝓤 H (𝓣 .C) (𝓣 .Λ) code.function) (f.clauses 𝓤 H A at-mem run)

@@ -43,7 +43,10 @@ use denote.Triple.Table.{entered, cited}
 use denote.Triple.Walked.{says, needs, Stays, stay-ref, walkOf, AllGo, goes-ref, Walks, ends-at, walked, walk-meets}
 use denote.Exit.{yes}
 use Rattle.merge.specs.State.{opened}
-use Rattle.session.specs.Meaning.{feed, held, rep, Ruled, Sized}
+use Rattle.book.specs.Tables.{fresh}
+use Rattle.book.specs.declared.tables.OpeningRule.the-variants.{Default}
+use Rattle.book_room.specs.Room.{roomSize}
+use Rattle.session.specs.Meaning.{held, rep, Ruled, Sized}
 use Rattle.session.specs.declared.state.Session.{Session}
 use Rattle.session.proofs.state.Session as T
 use Rattle.session.proofs.state.Session.Laws as T′
@@ -58,11 +61,11 @@ use Rattle.exports.proofs.jangsebit_open.Statement as stated
 use Rattle.exports.proofs.jangsebit_open.Code as code
 
 abbrev stayed : Stays (f.ended .signature .params) (f.ended .kept)
-stayed = (stay-ref (0 ∷ []) tt (plain (λ _. T.the-row)), (passed (mutRefTo (1 ∷ []) tt (ArrayOf (plain (λ _. u64)) (λ _. tt) 2306)) yes, (passed (mutRefTo (2 ∷ []) tt (ArrayOf (plain (λ _. u8)) (λ _. tt) 32768)) yes, (passed (plain (λ _. u32)) yes, tt))))
+stayed = (stay-ref (0 ∷ []) tt (plain (λ _. T.the-row)), (passed (mutRefTo (1 ∷ []) tt (ArrayOf (plain (λ _. u64)) (λ _. tt) roomSize)) yes, (passed (mutRefTo (2 ∷ []) tt (ArrayOf (plain (λ _. u8)) (λ _. tt) 32768)) yes, (passed (plain (λ _. u32)) yes, tt))))
 
 -- what the callee ensures, clause by clause: of the session passed and the other parameters, at its result and at each `&mut`'s last value
 abbrev Opened : List ℕ → List ℕ → ℕ → Session → List ℕ → List ℕ → Type 0
-Opened room window number r room′ window′ = held r room′ window′ ≡ rep (opened feed number)
+Opened room window number r room′ window′ = held r room′ window′ ≡ rep (opened (fresh Default) number)
 
 abbrev Rules : List ℕ → List ℕ → ℕ → Session → List ℕ → List ℕ → Type 0
 Rules room window number r room′ window′ = Ruled (held r room′ window′)
@@ -91,7 +94,7 @@ module _ {M : Type 1} (𝓤 : URA M) (H : Heap 𝓤) (A : Atoms 𝓤) (W : Given
   tokens = ‵ (flft κ₁ q₁) ⊛ ‵ (flft κ₂ q₂) ⊛ ‵ ftrue
 
   abbrev others : Fml
-  others = owns (MutRef (named 1) κ₁ (Arr u64 2306) ∷ MutRef (named 2) κ₂ (Arr u8 32768) ∷ u32 ∷ []) (p₁, (p₂, (p₃, tt))) (ptr-vals p₁, (ptr-vals p₂, ((vint w32 p₃ ∷ []), tt)))
+  others = owns (MutRef (named 1) κ₁ (Arr u64 roomSize) ∷ MutRef (named 2) κ₂ (Arr u8 32768) ∷ u32 ∷ []) (p₁, (p₂, (p₃, tt))) (ptr-vals p₁, (ptr-vals p₂, ((vint w32 p₃ ∷ []), tt)))
 
   abbrev a′ : RefT (List ℕ) × (RefT (List ℕ) × (ℕ × (Unit {0})))
   a′ = (p₁, (p₂, (p₃, tt)))
@@ -114,7 +117,7 @@ module _ {M : Type 1} (𝓤 : URA M) (H : Heap 𝓤) (A : Atoms 𝓤) (W : Given
   module _ (C : Calls 𝓤 H) (Λ : Loops 𝓤 H) (fm : FmC 𝓤 H (W .laws) C) (known : Triple 𝓤 (C #callee) (Callee 𝓤 H A at-mem run)) where
     walk : Sized (p₁ .now) (p₂ .now) → ent 𝓤 (onEntry 𝓤 H A f.signature (κ, (κ₁, (κ₂, tt))) (q, (q₁, (q₂, tt))) x at) (WpFn 𝓤 H C Λ code.function (vptr b o ∷ vptr (p₁ .ptr .0) (p₁ .ptr .1) ∷ vptr (p₂ .ptr .0) (p₂ .ptr .1) ∷ vint w32 p₃ ∷ []) Post)
     walk rule =
-        qed W ((‵ (flft κ q) ⊛ tokens) ∷ ‵ (owns (MutRef (named 0) κ T.the-row ∷ MutRef (named 1) κ₁ (Arr u64 2306) ∷ MutRef (named 2) κ₂ (Arr u8 32768) ∷ u32 ∷ []) x at) ∷ []) ∵ split ! $ move ! (2 ∷ []) $ fsplit ! $ fsplit3 ! $ drop ! $ move ! (0 ∷ 1 ∷ 3 ∷ []) $
+        qed W ((‵ (flft κ q) ⊛ tokens) ∷ ‵ (owns (MutRef (named 0) κ T.the-row ∷ MutRef (named 1) κ₁ (Arr u64 roomSize) ∷ MutRef (named 2) κ₂ (Arr u8 32768) ∷ u32 ∷ []) x at) ∷ []) ∵ split ! $ move ! (2 ∷ []) $ fsplit ! $ fsplit3 ! $ drop ! $ move ! (0 ∷ 1 ∷ 3 ∷ []) $
         -- [obs; the borrow; its token; the other parameters; the other tokens]
         enter ! C Λ code.function (vptr b o ∷ vptr (p₁ .ptr .0) (p₁ .ptr .1) ∷ vptr (p₂ .ptr .0) (p₂ .ptr .1) ∷ vint w32 p₃ ∷ []) _ $
         alloc1 ! (λ l₀. alloc1 ! (λ l₁. alloc1 ! (λ l₂. alloc1 ! (λ l₃. alloc1 ! (λ l₄. alloc1 ! (λ l₅. alloc1 ! (λ l₆. alloc1 ! (λ l₇. alloc0 ! $ params1 ! $ pass1 ! (init ! 12 refl (tt, tt)) $ pass1 ! (init ! 10 refl (tt, tt)) $ pass1 ! (init ! 8 refl (tt, tt)) $ pass1 ! (init ! 6 refl (tt, record { fits = p₃-fits })) $ pass0 ! $
@@ -143,12 +146,12 @@ module _ {M : Type 1} (𝓤 : URA M) (H : Heap 𝓤) (A : Atoms 𝓤) (W : Given
 
 module _ {M : Type 1} (𝓤 : URA M) (H : Heap 𝓤) (A : Atoms 𝓤) (W : Given 𝓤 H A) (at-mem : Memory → SProp 𝓤) (run : Routine → Fun 𝓤) where
   jangsebit-open-walks : (C : Calls 𝓤 H) (Λ : Loops 𝓤 H) → FmC 𝓤 H (W .laws) C → Triple 𝓤 (C #callee) (Callee 𝓤 H A at-mem run) → Walks 𝓤 H A f.ended stayed (WpFn 𝓤 H C Λ code.function) (f.clauses 𝓤 H A at-mem run)
-  jangsebit-open-walks C Λ fm known = walked 𝓤 H A f.ended stayed (f.clauses 𝓤 H A at-mem run) (WpFn 𝓤 H C Λ code.function) (λ κs. (ptr-vals, (ptr-vals, (ptr-vals, (uint-vals w32, tt))))) (λ κs. (mut-tells (named 0) (κs .0) T.the-row, (mut-tells (named 1) (κs .1 .0) (Arr u64 2306), (mut-tells (named 2) (κs .1 .1 .0) (Arr u8 32768), (uint-tells w32, tt)))))
+  jangsebit-open-walks C Λ fm known = walked 𝓤 H A f.ended stayed (f.clauses 𝓤 H A at-mem run) (WpFn 𝓤 H C Λ code.function) (λ κs. (ptr-vals, (ptr-vals, (ptr-vals, (uint-vals w32, tt))))) (λ κs. (mut-tells (named 0) (κs .0) T.the-row, (mut-tells (named 1) (κs .1 .0) (Arr u64 roomSize), (mut-tells (named 2) (κs .1 .1 .0) (Arr u8 32768), (uint-tells w32, tt)))))
       (λ κs qs bounds a _ are. needs 𝓤 (Sized (a .1 .0 .now) (a .1 .1 .0 .now)) _
       (walk 𝓤 H A W at-mem run (κs .0) (κs .1 .0) (κs .1 .1 .0) (qs .0) (qs .1 .0) (qs .1 .1 .0) (a .0 .ptr .0) (a .0 .ptr .1) (a .0 .name) (a .0 .now) (a .1 .0) (a .1 .1 .0) (a .1 .1 .1 .0) (are .1 .1 .1 .0 .1) C Λ fm known))
 
   goes : AllGo 𝓤 H A W 3 (f.signature .params) (f.ended .kept) stayed
-  goes = (goes-ref 𝓤 H A W 3 0 tt (plain (λ _. T.the-row)), (goes-passed 𝓤 H A W 3 (mutRefTo (1 ∷ []) tt (ArrayOf (plain (λ _. u64)) (λ _. tt) 2306)) yes, (goes-passed 𝓤 H A W 3 (mutRefTo (2 ∷ []) tt (ArrayOf (plain (λ _. u8)) (λ _. tt) 32768)) yes, (goes-passed 𝓤 H A W 3 (plain (λ _. u32)) yes, tt))))
+  goes = (goes-ref 𝓤 H A W 3 0 tt (plain (λ _. T.the-row)), (goes-passed 𝓤 H A W 3 (mutRefTo (1 ∷ []) tt (ArrayOf (plain (λ _. u64)) (λ _. tt) roomSize)) yes, (goes-passed 𝓤 H A W 3 (mutRefTo (2 ∷ []) tt (ArrayOf (plain (λ _. u8)) (λ _. tt) 32768)) yes, (goes-passed 𝓤 H A W 3 (plain (λ _. u32)) yes, tt))))
 
 jangsebit-open-meets : {M : Type 1} (𝓤 : URA M) (H : Heap 𝓤) (A : Atoms 𝓤) → Given 𝓤 H A → (at-mem : Memory → SProp 𝓤) (run : Routine → Fun 𝓤) (𝓣 : Tables 𝓤 H) → Triple 𝓤 (𝓣 .C #callee) (Callee 𝓤 H A at-mem run)
     → Meets 𝓤 H A f.signature (WpFn 𝓤 H (𝓣 .C) (𝓣 .Λ) code.function) (f.spec 𝓤 H A at-mem run)

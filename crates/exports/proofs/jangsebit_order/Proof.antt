@@ -46,6 +46,7 @@ use denote.Triple.Table.{entered, cited}
 use denote.Triple.Walked.{says, needs, Stays, stay-ref, walkOf, AllGo, goes-ref, Walks, ends-at, walked, walk-meets}
 use denote.Exit.{yes}
 use Rattle.book.specs.Asking.{orderAsked}
+use Rattle.book_room.specs.Room.{roomSize}
 use Rattle.session.specs.Meaning.{held, tablesIn, Ruled}
 use Rattle.session.specs.Quoting.{refusalIn}
 use Rattle.exports.specs.Told.{orderTold}
@@ -77,7 +78,7 @@ use Rattle.exports.proofs.jangsebit_order.Statement as stated
 use Rattle.exports.proofs.jangsebit_order.Code as code
 
 abbrev stayed : Stays (f.ended .signature .params) (f.ended .kept)
-stayed = (passed (shrRefTo (0 ∷ []) tt (plain (λ _. T.the-row))) yes, (passed (shrRefTo (1 ∷ []) tt (ArrayOf (plain (λ _. u64)) (λ _. tt) 2306)) yes, (passed (shrRefTo (2 ∷ []) tt (ArrayOf (plain (λ _. u8)) (λ _. tt) 14)) yes, (passed (mutRefTo (3 ∷ []) tt (ArrayOf (plain (λ _. u64)) (λ _. tt) 8)) yes, tt))))
+stayed = (passed (shrRefTo (0 ∷ []) tt (plain (λ _. T.the-row))) yes, (passed (shrRefTo (1 ∷ []) tt (ArrayOf (plain (λ _. u64)) (λ _. tt) roomSize)) yes, (passed (shrRefTo (2 ∷ []) tt (ArrayOf (plain (λ _. u8)) (λ _. tt) 14)) yes, (passed (mutRefTo (3 ∷ []) tt (ArrayOf (plain (λ _. u64)) (λ _. tt) 8)) yes, tt))))
 
 -- what is found, and what is told of an order, by the lists lent
 abbrev Found : List ℕ → List ℕ → OrderPlace → Type 0
@@ -111,7 +112,7 @@ module _ {M : Type 1} (𝓤 : URA M) (H : Heap 𝓤) (A : Atoms 𝓤) (W : Given
   Post = walkOf 𝓤 H A f.ended stayed (f.clauses 𝓤 H A at-mem run) .post (((κ, (κ₁, (κ₂, (κ₃, tt)))), (q, (q₁, (q₂, (q₃, tt)))), tt, x, at), tt)
 
   abbrev own₁ : Item 𝓤
-  own₁ = ‵ (ShrRef (named 1) κ₁ (Arr u64 2306) .own p₁ (ptr-vals p₁))
+  own₁ = ‵ (ShrRef (named 1) κ₁ (Arr u64 roomSize) .own p₁ (ptr-vals p₁))
 
   abbrev own₂ : Item 𝓤
   own₂ = ‵ (ShrRef (named 2) κ₂ (Arr u8 14) .own p₂ (ptr-vals p₂))
@@ -170,7 +171,7 @@ module _ {M : Type 1} (𝓤 : URA M) (H : Heap 𝓤) (A : Atoms 𝓤) (W : Given
   module _ (C : Calls 𝓤 H) (Λ : Loops 𝓤 H) (fm : FmC 𝓤 H (W .laws) C) (locate-known : Triple 𝓤 (C #locate) (Locate 𝓤 H A at-mem run)) (tell-known : Triple 𝓤 (C #tell) (Tell 𝓤 H A at-mem run)) where
     walk : ((window : List ℕ) × Ruled (held h (p₁ .now) window)) → ent 𝓤 (onEntry 𝓤 H A f.signature (κ, (κ₁, (κ₂, (κ₃, tt)))) (q, (q₁, (q₂, (q₃, tt)))) x at) (WpFn 𝓤 H C Λ code.function (vptr b o ∷ vptr (p₁ .ptr .0) (p₁ .ptr .1) ∷ vptr (p₂ .ptr .0) (p₂ .ptr .1) ∷ vptr (p₃ .ptr .0) (p₃ .ptr .1) ∷ []) Post)
     walk rule =
-        qed W ((‵ (flft κ q) ⊛ ‵ (flft κ₁ q₁) ⊛ ‵ (flft κ₂ q₂) ⊛ ‵ (flft κ₃ q₃) ⊛ ‵ ftrue) ∷ ‵ (owns (ShrRef (named 0) κ T.the-row ∷ ShrRef (named 1) κ₁ (Arr u64 2306) ∷ ShrRef (named 2) κ₂ (Arr u8 14) ∷ MutRef (named 3) κ₃ (Arr u64 8) ∷ []) x at) ∷ []) ∵
+        qed W ((‵ (flft κ q) ⊛ ‵ (flft κ₁ q₁) ⊛ ‵ (flft κ₂ q₂) ⊛ ‵ (flft κ₃ q₃) ⊛ ‵ ftrue) ∷ ‵ (owns (ShrRef (named 0) κ T.the-row ∷ ShrRef (named 1) κ₁ (Arr u64 roomSize) ∷ ShrRef (named 2) κ₂ (Arr u8 14) ∷ MutRef (named 3) κ₃ (Arr u64 8) ∷ []) x at) ∷ []) ∵
         split ! $ move ! (1 ∷ []) $ split ! $ move ! (1 ∷ []) $ split ! $ move ! (1 ∷ []) $ split ! $ move ! (1 ∷ []) $ drop ! $
         -- [the tokens, the last first; the parameters]
         move ! (4 ∷ []) $ fsplit ! $ fsplit3 ! $ drop ! $ drop ! $ move ! (1 ∷ []) $ fsplit ! $ move ! (1 ∷ []) $ fsplit ! $ move ! (1 ∷ []) $ fsplit ! $ move ! (1 ∷ []) $ drop ! $
@@ -216,12 +217,12 @@ module _ {M : Type 1} (𝓤 : URA M) (H : Heap 𝓤) (A : Atoms 𝓤) (W : Given
 
 module _ {M : Type 1} (𝓤 : URA M) (H : Heap 𝓤) (A : Atoms 𝓤) (W : Given 𝓤 H A) (at-mem : Memory → SProp 𝓤) (run : Routine → Fun 𝓤) where
   jangsebit-order-walks : (C : Calls 𝓤 H) (Λ : Loops 𝓤 H) → FmC 𝓤 H (W .laws) C → Triple 𝓤 (C #locate) (Locate 𝓤 H A at-mem run) → Triple 𝓤 (C #tell) (Tell 𝓤 H A at-mem run) → Walks 𝓤 H A f.ended stayed (WpFn 𝓤 H C Λ code.function) (f.clauses 𝓤 H A at-mem run)
-  jangsebit-order-walks C Λ fm locate-known tell-known = walked 𝓤 H A f.ended stayed (f.clauses 𝓤 H A at-mem run) (WpFn 𝓤 H C Λ code.function) (λ κs. (ptr-vals, (ptr-vals, (ptr-vals, (ptr-vals, tt))))) (λ κs. (shr-tells (named 0) (κs .0) T.the-row, (shr-tells (named 1) (κs .1 .0) (Arr u64 2306), (shr-tells (named 2) (κs .1 .1 .0) (Arr u8 14), (mut-tells (named 3) (κs .1 .1 .1 .0) (Arr u64 8), tt)))))
+  jangsebit-order-walks C Λ fm locate-known tell-known = walked 𝓤 H A f.ended stayed (f.clauses 𝓤 H A at-mem run) (WpFn 𝓤 H C Λ code.function) (λ κs. (ptr-vals, (ptr-vals, (ptr-vals, (ptr-vals, tt))))) (λ κs. (shr-tells (named 0) (κs .0) T.the-row, (shr-tells (named 1) (κs .1 .0) (Arr u64 roomSize), (shr-tells (named 2) (κs .1 .1 .0) (Arr u8 14), (mut-tells (named 3) (κs .1 .1 .1 .0) (Arr u64 8), tt)))))
       (λ κs qs bounds a _ are. needs 𝓤 (((window : List ℕ) × Ruled (held (a .0 .now) (a .1 .0 .now) window))) _
       (walk 𝓤 H A W at-mem run (κs .0) (κs .1 .0) (κs .1 .1 .0) (κs .1 .1 .1 .0) (qs .0) (qs .1 .0) (qs .1 .1 .0) (qs .1 .1 .1 .0) (a .0 .ptr .0) (a .0 .ptr .1) (a .0 .name) (a .0 .now) (a .1 .0) (a .1 .1 .0) (a .1 .1 .1 .0) C Λ fm locate-known tell-known))
 
   goes : AllGo 𝓤 H A W 4 (f.signature .params) (f.ended .kept) stayed
-  goes = (goes-passed 𝓤 H A W 4 (shrRefTo (0 ∷ []) tt (plain (λ _. T.the-row))) yes, (goes-passed 𝓤 H A W 4 (shrRefTo (1 ∷ []) tt (ArrayOf (plain (λ _. u64)) (λ _. tt) 2306)) yes, (goes-passed 𝓤 H A W 4 (shrRefTo (2 ∷ []) tt (ArrayOf (plain (λ _. u8)) (λ _. tt) 14)) yes, (goes-passed 𝓤 H A W 4 (mutRefTo (3 ∷ []) tt (ArrayOf (plain (λ _. u64)) (λ _. tt) 8)) yes, tt))))
+  goes = (goes-passed 𝓤 H A W 4 (shrRefTo (0 ∷ []) tt (plain (λ _. T.the-row))) yes, (goes-passed 𝓤 H A W 4 (shrRefTo (1 ∷ []) tt (ArrayOf (plain (λ _. u64)) (λ _. tt) roomSize)) yes, (goes-passed 𝓤 H A W 4 (shrRefTo (2 ∷ []) tt (ArrayOf (plain (λ _. u8)) (λ _. tt) 14)) yes, (goes-passed 𝓤 H A W 4 (mutRefTo (3 ∷ []) tt (ArrayOf (plain (λ _. u64)) (λ _. tt) 8)) yes, tt))))
 
 jangsebit-order-meets : {M : Type 1} (𝓤 : URA M) (H : Heap 𝓤) (A : Atoms 𝓤) → Given 𝓤 H A → (at-mem : Memory → SProp 𝓤) (run : Routine → Fun 𝓤) (𝓣 : Tables 𝓤 H) → Triple 𝓤 (𝓣 .C #locate) (Locate 𝓤 H A at-mem run) → Triple 𝓤 (𝓣 .C #tell) (Tell 𝓤 H A at-mem run)
     → Meets 𝓤 H A f.signature (WpFn 𝓤 H (𝓣 .C) (𝓣 .Λ) code.function) (f.spec 𝓤 H A at-mem run)

@@ -31,6 +31,7 @@ use denote.Triple.Statement.{Triple}
 use denote.Triple.Entry.{onEntry}
 use denote.Triple.Spec.{tripleOf}
 use Rattle.single.specs.Over.{over}
+use Rattle.book_room.specs.Room.{roomSize}
 use Rattle.session.specs.Meaning.{held, rep, view, Ruled}
 use Rattle.session.specs.Bursts.{Runs}
 use Rattle.session.specs.declared.state.Session.{Session}
@@ -85,7 +86,7 @@ use Rattle.exports.proofs.jangsebit_packets.Statement as stated
 use Rattle.exports.proofs.jangsebit_packets.Code as code
 
 abbrev stayed : Stays (f.ended .signature .params) (f.ended .kept)
-stayed = (passed (mutRefTo (0 ∷ []) tt (plain (λ _. T.the-row))) yes, (passed (mutRefTo (1 ∷ []) tt (ArrayOf (plain (λ _. u64)) (λ _. tt) 2306)) yes, (passed (mutRefTo (2 ∷ []) tt (ArrayOf (plain (λ _. u8)) (λ _. tt) 32768)) yes, (passed (shrSliceOf (3 ∷ []) tt (plain (λ _. u8))) yes, (passed (plain (λ _. u64)) yes, (passed (plain (λ _. u64)) yes, (passed (mutSliceOf (4 ∷ []) tt (plain (λ _. u64))) yes, (passed (mutRefTo (5 ∷ []) tt (ArrayOf (plain (λ _. u64)) (λ _. tt) 3)) yes, tt))))))))
+stayed = (passed (mutRefTo (0 ∷ []) tt (plain (λ _. T.the-row))) yes, (passed (mutRefTo (1 ∷ []) tt (ArrayOf (plain (λ _. u64)) (λ _. tt) roomSize)) yes, (passed (mutRefTo (2 ∷ []) tt (ArrayOf (plain (λ _. u8)) (λ _. tt) 32768)) yes, (passed (shrSliceOf (3 ∷ []) tt (plain (λ _. u8))) yes, (passed (plain (λ _. u64)) yes, (passed (plain (λ _. u64)) yes, (passed (mutSliceOf (4 ∷ []) tt (plain (λ _. u64))) yes, (passed (mutRefTo (5 ∷ []) tt (ArrayOf (plain (λ _. u64)) (λ _. tt) 3)) yes, tt))))))))
 
 -- what the plan says, part by part
 module _ (single count n : ℕ) {p : Plan} (planned : p ≡ planOf single count n) where
@@ -230,7 +231,7 @@ module _ {M : Type 1} (𝓤 : URA M) (H : Heap 𝓤) (A : Atoms 𝓤) (W : Given
 
 module _ {M : Type 1} (𝓤 : URA M) (H : Heap 𝓤) (A : Atoms 𝓤) (W : Given 𝓤 H A) (at-mem : Memory → SProp 𝓤) (run : Routine → Fun 𝓤) where
   goes : AllGo 𝓤 H A W 6 (f.signature .params) (f.ended .kept) stayed
-  goes = (goes-passed 𝓤 H A W 6 (mutRefTo (0 ∷ []) tt (plain (λ _. T.the-row))) yes, (goes-passed 𝓤 H A W 6 (mutRefTo (1 ∷ []) tt (ArrayOf (plain (λ _. u64)) (λ _. tt) 2306)) yes, (goes-passed 𝓤 H A W 6 (mutRefTo (2 ∷ []) tt (ArrayOf (plain (λ _. u8)) (λ _. tt) 32768)) yes, (goes-passed 𝓤 H A W 6 (shrSliceOf (3 ∷ []) tt (plain (λ _. u8))) yes, (goes-passed 𝓤 H A W 6 (plain (λ _. u64)) yes, (goes-passed 𝓤 H A W 6 (plain (λ _. u64)) yes, (goes-passed 𝓤 H A W 6 (mutSliceOf (4 ∷ []) tt (plain (λ _. u64))) yes, (goes-passed 𝓤 H A W 6 (mutRefTo (5 ∷ []) tt (ArrayOf (plain (λ _. u64)) (λ _. tt) 3)) yes, tt))))))))
+  goes = (goes-passed 𝓤 H A W 6 (mutRefTo (0 ∷ []) tt (plain (λ _. T.the-row))) yes, (goes-passed 𝓤 H A W 6 (mutRefTo (1 ∷ []) tt (ArrayOf (plain (λ _. u64)) (λ _. tt) roomSize)) yes, (goes-passed 𝓤 H A W 6 (mutRefTo (2 ∷ []) tt (ArrayOf (plain (λ _. u8)) (λ _. tt) 32768)) yes, (goes-passed 𝓤 H A W 6 (shrSliceOf (3 ∷ []) tt (plain (λ _. u8))) yes, (goes-passed 𝓤 H A W 6 (plain (λ _. u64)) yes, (goes-passed 𝓤 H A W 6 (plain (λ _. u64)) yes, (goes-passed 𝓤 H A W 6 (mutSliceOf (4 ∷ []) tt (plain (λ _. u64))) yes, (goes-passed 𝓤 H A W 6 (mutRefTo (5 ∷ []) tt (ArrayOf (plain (λ _. u64)) (λ _. tt) 3)) yes, tt))))))))
 
   module _ (𝓣 : Tables 𝓤 H) (plan-known : Triple 𝓤 (𝓣 .C #plan) (Planned 𝓤 H A W at-mem run)) (run-known : Triple 𝓤 (𝓣 .C #run) (Ran 𝓤 H A at-mem run)) (tell-known : Triple 𝓤 (𝓣 .C #tell) (Told 𝓤 H A at-mem run)) where
     packets-walks : Walks 𝓤 H A f.ended stayed (WpFn 𝓤 H (𝓣 .C) (𝓣 .Λ) code.function) (f.clauses 𝓤 H A at-mem run)

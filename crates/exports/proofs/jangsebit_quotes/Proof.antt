@@ -37,6 +37,7 @@ use denote.Triple.Spec.{Meets, tripleOf}
 use denote.Triple.Table.{entered, cited}
 use denote.Triple.Walked.{says, needs, Stays, stay-ref, walkOf, AllGo, goes-ref, Walks, ends-at, walked, walk-meets}
 use denote.Exit.{yes}
+use Rattle.book_room.specs.Room.{roomSize}
 use Rattle.session.specs.Meaning.{held, tablesIn, Ruled}
 use Rattle.session.specs.Quoting.{quotedOf, quotesAfter}
 use Rattle.session.specs.declared.state.Session.{Session}
@@ -52,7 +53,7 @@ use Rattle.exports.proofs.jangsebit_quotes.Statement as stated
 use Rattle.exports.proofs.jangsebit_quotes.Code as code
 
 abbrev stayed : Stays (f.ended .signature .params) (f.ended .kept)
-stayed = (passed (shrRefTo (0 ∷ []) tt (plain (λ _. T.the-row))) yes, (passed (shrRefTo (1 ∷ []) tt (ArrayOf (plain (λ _. u64)) (λ _. tt) 2306)) yes, (passed (shrSliceOf (2 ∷ []) tt (plain (λ _. u8))) yes, (passed (mutSliceOf (3 ∷ []) tt (plain (λ _. u64))) yes, tt))))
+stayed = (passed (shrRefTo (0 ∷ []) tt (plain (λ _. T.the-row))) yes, (passed (shrRefTo (1 ∷ []) tt (ArrayOf (plain (λ _. u64)) (λ _. tt) roomSize)) yes, (passed (shrSliceOf (2 ∷ []) tt (plain (λ _. u8))) yes, (passed (mutSliceOf (3 ∷ []) tt (plain (λ _. u64))) yes, tt))))
 
 -- what the callee ensures, clause by clause: of the parameters, at its result and at the replies' last value
 abbrev Refusal : Session → List ℕ → List ℕ → List ℕ → ℕ → List ℕ → Type 0
@@ -84,7 +85,7 @@ module _ {M : Type 1} (𝓤 : URA M) (H : Heap 𝓤) (A : Atoms 𝓤) (W : Given
   tokens = ‵ (flft κ q) ⊛ ‵ (flft κ₁ q₁) ⊛ ‵ (flft κ₂ q₂) ⊛ ‵ (flft κ₃ q₃) ⊛ ‵ ftrue
 
   abbrev all : Fml
-  all = owns (ShrRef (named 0) κ T.the-row ∷ ShrRef (named 1) κ₁ (Arr u64 2306) ∷ ShrSlice (named 2) κ₂ u8 ∷ MutSlice (named 3) κ₃ u64 ∷ []) x at
+  all = owns (ShrRef (named 0) κ T.the-row ∷ ShrRef (named 1) κ₁ (Arr u64 roomSize) ∷ ShrSlice (named 2) κ₂ u8 ∷ MutSlice (named 3) κ₃ u64 ∷ []) x at
 
   abbrev to : Callee 𝓤 H A at-mem run .Ghost
   to = ((κs, (q, (q₁, (q₂, (q₃, tt)))), tt, x, at), tt)
@@ -122,12 +123,12 @@ module _ {M : Type 1} (𝓤 : URA M) (H : Heap 𝓤) (A : Atoms 𝓤) (W : Given
 
 module _ {M : Type 1} (𝓤 : URA M) (H : Heap 𝓤) (A : Atoms 𝓤) (W : Given 𝓤 H A) (at-mem : Memory → SProp 𝓤) (run : Routine → Fun 𝓤) where
   jangsebit-quotes-walks : (C : Calls 𝓤 H) (Λ : Loops 𝓤 H) → FmC 𝓤 H (W .laws) C → Triple 𝓤 (C #callee) (Callee 𝓤 H A at-mem run) → Walks 𝓤 H A f.ended stayed (WpFn 𝓤 H C Λ code.function) (f.clauses 𝓤 H A at-mem run)
-  jangsebit-quotes-walks C Λ fm known = walked 𝓤 H A f.ended stayed (f.clauses 𝓤 H A at-mem run) (WpFn 𝓤 H C Λ code.function) (λ κs. (ptr-vals, (ptr-vals, (slice-vals, (slice-vals, tt))))) (λ κs. (shr-tells (named 0) (κs .0) T.the-row, (shr-tells (named 1) (κs .1 .0) (Arr u64 2306), (shr-slice-tells (named 2) (κs .1 .1 .0) u8, (mut-slice-tells (named 3) (κs .1 .1 .1 .0) u64, tt)))))
+  jangsebit-quotes-walks C Λ fm known = walked 𝓤 H A f.ended stayed (f.clauses 𝓤 H A at-mem run) (WpFn 𝓤 H C Λ code.function) (λ κs. (ptr-vals, (ptr-vals, (slice-vals, (slice-vals, tt))))) (λ κs. (shr-tells (named 0) (κs .0) T.the-row, (shr-tells (named 1) (κs .1 .0) (Arr u64 roomSize), (shr-slice-tells (named 2) (κs .1 .1 .0) u8, (mut-slice-tells (named 3) (κs .1 .1 .1 .0) u64, tt)))))
       (λ κs qs bounds a _ are. needs 𝓤 (((window : List ℕ) × Ruled (held (a .0 .now) (a .1 .0 .now) window))) _
       (walk 𝓤 H A W at-mem run (κs .0) (κs .1 .0) (κs .1 .1 .0) (κs .1 .1 .1 .0) (qs .0) (qs .1 .0) (qs .1 .1 .0) (qs .1 .1 .1 .0) (a .0 .ptr .0) (a .0 .ptr .1) (a .0 .name) (a .0 .now) (a .1 .0) (a .1 .1 .0) (a .1 .1 .1 .0) (are .1 .1 .0 .0 .1) (are .1 .1 .1 .0 .0 .1) C Λ fm known))
 
   goes : AllGo 𝓤 H A W 4 (f.signature .params) (f.ended .kept) stayed
-  goes = (goes-passed 𝓤 H A W 4 (shrRefTo (0 ∷ []) tt (plain (λ _. T.the-row))) yes, (goes-passed 𝓤 H A W 4 (shrRefTo (1 ∷ []) tt (ArrayOf (plain (λ _. u64)) (λ _. tt) 2306)) yes, (goes-passed 𝓤 H A W 4 (shrSliceOf (2 ∷ []) tt (plain (λ _. u8))) yes, (goes-passed 𝓤 H A W 4 (mutSliceOf (3 ∷ []) tt (plain (λ _. u64))) yes, tt))))
+  goes = (goes-passed 𝓤 H A W 4 (shrRefTo (0 ∷ []) tt (plain (λ _. T.the-row))) yes, (goes-passed 𝓤 H A W 4 (shrRefTo (1 ∷ []) tt (ArrayOf (plain (λ _. u64)) (λ _. tt) roomSize)) yes, (goes-passed 𝓤 H A W 4 (shrSliceOf (2 ∷ []) tt (plain (λ _. u8))) yes, (goes-passed 𝓤 H A W 4 (mutSliceOf (3 ∷ []) tt (plain (λ _. u64))) yes, tt))))
 
 jangsebit-quotes-meets : {M : Type 1} (𝓤 : URA M) (H : Heap 𝓤) (A : Atoms 𝓤) → Given 𝓤 H A → (at-mem : Memory → SProp 𝓤) (run : Routine → Fun 𝓤) (𝓣 : Tables 𝓤 H) → Triple 𝓤 (𝓣 .C #callee) (Callee 𝓤 H A at-mem run)
     → Meets 𝓤 H A f.signature (WpFn 𝓤 H (𝓣 .C) (𝓣 .Λ) code.function) (f.spec 𝓤 H A at-mem run)

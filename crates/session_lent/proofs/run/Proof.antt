@@ -51,6 +51,7 @@ use Rattle.book.specs.Tables.{blank, noOrder}
 use Rattle.book.specs.declared.tables.Order.{Order}
 use Rattle.book.proofs.tables.Order as Or
 use Rattle.book.proofs.tables.Order.Laws as Or′
+use Rattle.book_room.specs.Room.{roomSize}
 use Rattle.session.specs.declared.state.Session.{Session}
 use Rattle.session.specs.declared.advancing.Point.{Point}
 use Rattle.session.specs.declared.settling.Outcome.{Outcome}
@@ -125,7 +126,7 @@ use Rattle.session_lent.proofs.run.Statement as stated
 use Rattle.session_lent.proofs.run.Code as code
 
 abbrev stayed : Stays (f.ended .signature .params) (f.ended .kept)
-stayed = (stay-ref (0 ∷ []) tt (plain (λ _. T.the-row)), (stay-ref (1 ∷ []) tt (ArrayOf (plain (λ _. u64)) (λ _. tt) 2306), (stay-ref (2 ∷ []) tt (ArrayOf (plain (λ _. u8)) (λ _. tt) 32768), (passed (shrSliceOf (3 ∷ []) tt (plain (λ _. u8))) yes, (passed (plain (λ _. bool)) yes, (passed (plain (λ _. usize)) yes, (stay-slice (4 ∷ []) tt (plain (λ _. u64)), (passed (plain (λ _. usize)) yes, tt))))))))
+stayed = (stay-ref (0 ∷ []) tt (plain (λ _. T.the-row)), (stay-ref (1 ∷ []) tt (ArrayOf (plain (λ _. u64)) (λ _. tt) roomSize), (stay-ref (2 ∷ []) tt (ArrayOf (plain (λ _. u8)) (λ _. tt) 32768), (passed (shrSliceOf (3 ∷ []) tt (plain (λ _. u8))) yes, (passed (plain (λ _. bool)) yes, (passed (plain (λ _. usize)) yes, (stay-slice (4 ∷ []) tt (plain (λ _. u64)), (passed (plain (λ _. usize)) yes, tt))))))))
 
 module _ {M : Type 1} (𝓤 : URA M) (H : Heap 𝓤) (A : Atoms 𝓤) (W : Given 𝓤 H A) (at-mem : Memory → SProp 𝓤) (run : Routine → Fun 𝓤) (κ κ₁ κ₂ κ₃ κ₄ : Lft) (q q₁ q₂ q₃ q₄ : Share) (b o : ℕ) (γ : GName) (h : Session) (b₁ o₁ : ℕ) (γ₁ : GName) (rm₀ : List ℕ) (b₂ o₂ : ℕ) (γ₂ : GName) (wn₀ : List ℕ) (p₃ : RefT (List ℕ)) (single : Bool) (count : ℕ) (b₄ o₄ : ℕ) (γ₄ : GName) (an₀ : List ℕ) (due : ℕ) where
   abbrev x₀ : RefT Session × (RefT (List ℕ) × (RefT (List ℕ) × (RefT (List ℕ) × (Bool × (ℕ × (RefT (List ℕ) × (ℕ × Unit {0})))))))
@@ -178,7 +179,7 @@ module _ {M : Type 1} (𝓤 : URA M) (H : Heap 𝓤) (A : Atoms 𝓤) (W : Given
 
 module _ {M : Type 1} (𝓤 : URA M) (H : Heap 𝓤) (A : Atoms 𝓤) (W : Given 𝓤 H A) (at-mem : Memory → SProp 𝓤) (run : Routine → Fun 𝓤) where
   goes : AllGo 𝓤 H A W 5 (f.signature .params) (f.ended .kept) stayed
-  goes = (goes-ref 𝓤 H A W 5 0 tt (plain (λ _. T.the-row)), (goes-ref 𝓤 H A W 5 1 tt (ArrayOf (plain (λ _. u64)) (λ _. tt) 2306), (goes-ref 𝓤 H A W 5 2 tt (ArrayOf (plain (λ _. u8)) (λ _. tt) 32768), (goes-passed 𝓤 H A W 5 (shrSliceOf (3 ∷ []) tt (plain (λ _. u8))) yes, (goes-passed 𝓤 H A W 5 (plain (λ _. bool)) yes, (goes-passed 𝓤 H A W 5 (plain (λ _. usize)) yes, (goes-slice 𝓤 H A W 5 4 tt (plain (λ _. u64)), (goes-passed 𝓤 H A W 5 (plain (λ _. usize)) yes, tt))))))))
+  goes = (goes-ref 𝓤 H A W 5 0 tt (plain (λ _. T.the-row)), (goes-ref 𝓤 H A W 5 1 tt (ArrayOf (plain (λ _. u64)) (λ _. tt) roomSize), (goes-ref 𝓤 H A W 5 2 tt (ArrayOf (plain (λ _. u8)) (λ _. tt) 32768), (goes-passed 𝓤 H A W 5 (shrSliceOf (3 ∷ []) tt (plain (λ _. u8))) yes, (goes-passed 𝓤 H A W 5 (plain (λ _. bool)) yes, (goes-passed 𝓤 H A W 5 (plain (λ _. usize)) yes, (goes-slice 𝓤 H A W 5 4 tt (plain (λ _. u64)), (goes-passed 𝓤 H A W 5 (plain (λ _. usize)) yes, tt))))))))
 
   module _ (𝓣 : Tables 𝓤 H) (blank-known : Triple 𝓤 (𝓣 .C #blank) (Plain.Blank 𝓤 H A W at-mem run)) (begin-known : Triple 𝓤 (𝓣 .C #begin) (Begin.Callee 𝓤 H A at-mem run)) (advance-known : Triple 𝓤 (𝓣 .C #advance) (Advance.Callee 𝓤 H A at-mem run)) (settle-known : Triple 𝓤 (𝓣 .C #settle) (Settle.Callee 𝓤 H A at-mem run)) (none-known : Triple 𝓤 (𝓣 .C #none) (Plain.None 𝓤 H A W at-mem run)) (finish-known : Triple 𝓤 (𝓣 .C #ended) (Plain.Finish 𝓤 H A W at-mem run)) where
     run-walks : Walks 𝓤 H A f.ended stayed (WpFn 𝓤 H (𝓣 .C) (𝓣 .Λ) code.function) (f.clauses 𝓤 H A at-mem run)

@@ -67,7 +67,7 @@ use Rattle.session_quotes.proofs.quotes.Statement as stated
 use Rattle.session_quotes.proofs.quotes.Code as code
 
 abbrev stayed : Stays (f.ended .signature .params) (f.ended .kept)
-stayed = (passed (shrRefTo (0 ∷ []) tt (plain (λ _. T.the-row))) yes, (passed (shrRefTo (1 ∷ []) tt (ArrayOf (plain (λ _. u64)) (λ _. tt) 2306)) yes, (passed (shrSliceOf (2 ∷ []) tt (plain (λ _. u8))) yes, (stay-slice (3 ∷ []) tt (plain (λ _. u64)), tt))))
+stayed = (passed (shrRefTo (0 ∷ []) tt (plain (λ _. T.the-row))) yes, (passed (shrRefTo (1 ∷ []) tt (ArrayOf (plain (λ _. u64)) (λ _. tt) 2308)) yes, (passed (shrSliceOf (2 ∷ []) tt (plain (λ _. u8))) yes, (stay-slice (3 ∷ []) tt (plain (λ _. u64)), tt))))
 
 module _ {M : Type 1} (𝓤 : URA M) (H : Heap 𝓤) (A : Atoms 𝓤) (W : Given 𝓤 H A) (at-mem : Memory → SProp 𝓤) (run : Routine → Fun 𝓤) (κ κ₁ κ₂ κ₃ : Lft) (q q₁ q₂ q₃ : Share) (b o : ℕ) (γ : GName) (h : Session) (p₁ p₂ : RefT (List ℕ)) (b₃ o₃ : ℕ) (γ₃ : GName) (rs₀ : List ℕ) where
   abbrev x₀ : RefT Session × (RefT (List ℕ) × (RefT (List ℕ) × (RefT (List ℕ) × Unit {0})))
@@ -113,7 +113,7 @@ module _ {M : Type 1} (𝓤 : URA M) (H : Heap 𝓤) (A : Atoms 𝓤) (W : Given
 
 module _ {M : Type 1} (𝓤 : URA M) (H : Heap 𝓤) (A : Atoms 𝓤) (W : Given 𝓤 H A) (at-mem : Memory → SProp 𝓤) (run : Routine → Fun 𝓤) where
   goes : AllGo 𝓤 H A W 4 (f.signature .params) (f.ended .kept) stayed
-  goes = (goes-passed 𝓤 H A W 4 (shrRefTo (0 ∷ []) tt (plain (λ _. T.the-row))) yes, (goes-passed 𝓤 H A W 4 (shrRefTo (1 ∷ []) tt (ArrayOf (plain (λ _. u64)) (λ _. tt) 2306)) yes, (goes-passed 𝓤 H A W 4 (shrSliceOf (2 ∷ []) tt (plain (λ _. u8))) yes, (goes-slice 𝓤 H A W 4 3 tt (plain (λ _. u64)), tt))))
+  goes = (goes-passed 𝓤 H A W 4 (shrRefTo (0 ∷ []) tt (plain (λ _. T.the-row))) yes, (goes-passed 𝓤 H A W 4 (shrRefTo (1 ∷ []) tt (ArrayOf (plain (λ _. u64)) (λ _. tt) 2308)) yes, (goes-passed 𝓤 H A W 4 (shrSliceOf (2 ∷ []) tt (plain (λ _. u8))) yes, (goes-slice 𝓤 H A W 4 3 tt (plain (λ _. u64)), tt))))
 
   module _ (𝓣 : Runs 𝓤 H) (start-known : Triple 𝓤 (𝓣 .C #start) (Plain.Start 𝓤 H A W at-mem run)) (none-known : Triple 𝓤 (𝓣 .C #none) (Plain.None 𝓤 H A W at-mem run)) (met-known : Triple 𝓤 (𝓣 .C #met) (Plain.Met 𝓤 H A W at-mem run)) (reach-known : Triple 𝓤 (𝓣 .C #reach) (Reach.Callee 𝓤 H A at-mem run)) where
     quotes-walks : Walks 𝓤 H A f.ended stayed (WpFn 𝓤 H (𝓣 .C) (𝓣 .Λ) code.function) (f.clauses 𝓤 H A at-mem run)

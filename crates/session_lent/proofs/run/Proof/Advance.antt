@@ -35,6 +35,7 @@ use denote.Triple.Clauses.{Lasts, ensured, lasts}
 use denote.Triple.Spec.{tripleOf}
 use denote.Triple.Walked.{says}
 use Rattle.book.specs.declared.tables.Order.{Order}
+use Rattle.book_room.specs.Room.{roomSize}
 use Rattle.session.specs.Engine.{Task, Going, Came}
 use Rattle.session.specs.declared.advancing.Point.{Point}
 use Rattle.session.proofs.advancing.Point as Pt
@@ -43,7 +44,7 @@ use Rattle.session.proofs.advancing.advance as adv
 use Rattle.session_lent.proofs.Slices.{away, goes-out, comes-home}
 
 abbrev Rooms : RattleType
-Rooms = Arr u64 2306
+Rooms = Arr u64 roomSize
 
 abbrev Places : RattleType
 Places = Arr u8 32768

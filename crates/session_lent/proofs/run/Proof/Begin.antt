@@ -29,6 +29,7 @@ use denote.Triple.Clauses.{Lasts, ensured, lasts}
 use denote.Triple.Spec.{tripleOf}
 use denote.Triple.Entry.{onEntry}
 use sound.Laws.{∗emp}
+use Rattle.book_room.specs.Room.{roomSize}
 use Rattle.session.specs.Meaning.{endIn, nextIn}
 use Rattle.session.specs.Engine.{beginOf}
 use Rattle.session.specs.declared.advancing.Point.{Point}
@@ -36,7 +37,7 @@ use Rattle.session.proofs.advancing.Point as Pt
 use Rattle.session_lent.proofs.begin as beg
 
 abbrev Rooms : RattleType
-Rooms = Arr u64 2306
+Rooms = Arr u64 roomSize
 
 -- the lifetime and the name of the loan
 pub record Loan : Type 0 where

@@ -24,6 +24,7 @@ use denote.Index.{row}
 use denote.Struct.Laws as LL
 use Rattle.book.specs.declared.tables.Order.{Order}
 use Rattle.book.proofs.tables.Order.Laws as Or′
+use Rattle.book_room.specs.Room.{roomSize}
 use Rattle.session.specs.declared.state.Session.{Session}
 use Rattle.session.specs.declared.advancing.Point.{Point}
 use Rattle.session.proofs.state.Session as T
@@ -34,7 +35,7 @@ use Rattle.session.proofs.settling.Outcome.Laws as Oc′
 use Rattle.session_lent.proofs.Orders.{PS, elems, Behind}
 
 abbrev pub Rooms : RattleType
-Rooms = Arr u64 2306
+Rooms = Arr u64 roomSize
 
 abbrev pub Places : RattleType
 Places = Arr u8 32768
@@ -120,7 +121,7 @@ module _ (z : Locals) where
 
   module _ {M : Type 1} (𝓤 : URA M) (H : Heap 𝓤) (A : Atoms 𝓤) (W : Given 𝓤 H A) where
     abbrev pub En : Env 𝓤 H
-    En = (Ed′.mir, l₀) ∷ (tyRef (named 0) mut (pointee (T.the-row .written)), l₁) ∷ (tyRef (named 1) mut (tyArray (tyInt w64) 2306), l₂) ∷ (tyRef (named 2) mut (tyArray (tyInt w8) 32768), l₃) ∷ (sliceTy (tyRef (named 3) imm (tyInt w8)), l₄) ∷ (tyBool, l₅) ∷ (tyInt w64, l₆) ∷ (sliceTy (tyRef (named 4) mut (tyInt w64)), l₇) ∷ (tyInt w64, l₈) ∷ (tyArray (tyInt w8) 128, l₉) ∷ (Pt′.mir, l₁₀) ∷ (Or′.mir, l₁₁) ∷ (Oc′.mir, l₁₂) ∷ (tyArray (tyInt w8) 128, l₁₃) ∷ (tyRef erased mut (tyArray (tyInt w64) 2306), l₁₄) ∷ (tyRef erased mut (tyArray (tyInt w64) 2306), l₁₅) ∷ (tyRef erased mut (tyArray (tyInt w8) 32768), l₁₆) ∷ (tyRef erased mut (tyArray (tyInt w8) 128), l₁₇) ∷ (tyRef erased mut (tyInt w64), l₁₈) ∷ (sliceTy (tyRef erased mut (tyInt w64)), l₁₉) ∷ (tyBool, l₂₀) ∷ (tyInt w64, l₂₁) ∷ (tyPtr, l₂₂) ∷ (tyPtr, l₂₃) ∷ (Or′.mir, l₂₄) ∷ (tyRef erased mut (tyArray (tyInt w64) 2306), l₂₅) ∷ (tyRef erased mut (tyArray (tyInt w8) 128), l₂₆) ∷ (tyInt w64, l₂₇) ∷ (tyPtr, l₂₈) ∷ (tyPtr, l₂₉) ∷ (Or′.mir, l₃₀) ∷ (tyInt w64, l₃₁) ∷ (tyPtr, l₃₂) ∷ (tyPtr, l₃₃) ∷ (tyPtr, l₃₄) ∷ (tyPtr, l₃₅) ∷ (tyInt w64, l₃₆) ∷ (tyPtr, l₃₇) ∷ (tyPtr, l₃₈) ∷ []
+    En = (Ed′.mir, l₀) ∷ (tyRef (named 0) mut (pointee (T.the-row .written)), l₁) ∷ (tyRef (named 1) mut (tyArray (tyInt w64) roomSize), l₂) ∷ (tyRef (named 2) mut (tyArray (tyInt w8) 32768), l₃) ∷ (sliceTy (tyRef (named 3) imm (tyInt w8)), l₄) ∷ (tyBool, l₅) ∷ (tyInt w64, l₆) ∷ (sliceTy (tyRef (named 4) mut (tyInt w64)), l₇) ∷ (tyInt w64, l₈) ∷ (tyArray (tyInt w8) 128, l₉) ∷ (Pt′.mir, l₁₀) ∷ (Or′.mir, l₁₁) ∷ (Oc′.mir, l₁₂) ∷ (tyArray (tyInt w8) 128, l₁₃) ∷ (tyRef erased mut (tyArray (tyInt w64) roomSize), l₁₄) ∷ (tyRef erased mut (tyArray (tyInt w64) roomSize), l₁₅) ∷ (tyRef erased mut (tyArray (tyInt w8) 32768), l₁₆) ∷ (tyRef erased mut (tyArray (tyInt w8) 128), l₁₇) ∷ (tyRef erased mut (tyInt w64), l₁₈) ∷ (sliceTy (tyRef erased mut (tyInt w64)), l₁₉) ∷ (tyBool, l₂₀) ∷ (tyInt w64, l₂₁) ∷ (tyPtr, l₂₂) ∷ (tyPtr, l₂₃) ∷ (Or′.mir, l₂₄) ∷ (tyRef erased mut (tyArray (tyInt w64) roomSize), l₂₅) ∷ (tyRef erased mut (tyArray (tyInt w8) 128), l₂₆) ∷ (tyInt w64, l₂₇) ∷ (tyPtr, l₂₈) ∷ (tyPtr, l₂₉) ∷ (Or′.mir, l₃₀) ∷ (tyInt w64, l₃₁) ∷ (tyPtr, l₃₂) ∷ (tyPtr, l₃₃) ∷ (tyPtr, l₃₄) ∷ (tyPtr, l₃₅) ∷ (tyInt w64, l₃₆) ∷ (tyPtr, l₃₇) ∷ (tyPtr, l₃₈) ∷ []
 
     -- what is lent: the orders, and the way back to the session; its open borrow; the room, the window, the packets and the answers with their tokens
     abbrev lent : (os : List Order) (rm wn an : List ℕ) → List (Item 𝓤) → List (Item 𝓤)
@@ -145,7 +146,7 @@ module _ (z : Locals) where
     params others =
         ‵ (froom Ed′.mir l₀ 0)
         ∷ ‵ (fat fullShare (tyRef (named 0) mut (pointee (T.the-row .written))) l₁ 0 (vptr b o))
-        ∷ ‵ (fat fullShare (tyRef (named 1) mut (tyArray (tyInt w64) 2306)) l₂ 0 (vptr b₁ o₁))
+        ∷ ‵ (fat fullShare (tyRef (named 1) mut (tyArray (tyInt w64) roomSize)) l₂ 0 (vptr b₁ o₁))
         ∷ ‵ (fat fullShare (tyRef (named 2) mut (tyArray (tyInt w8) 32768)) l₃ 0 (vptr b₂ o₂))
         ∷ ‵ (fat fullShare (sliceTy (tyRef (named 3) imm (tyInt w8))) l₄ 0 (sliceVal (p₃ .ptr) (length (p₃ .now))))
         ∷ ‵ (fat fullShare tyBool l₅ 0 (vbool single))
@@ -158,8 +159,8 @@ module _ (z : Locals) where
     abbrev unused : List (Item 𝓤)
     unused =
         ‵ (froom (tyArray (tyInt w8) 128) l₁₃ 0)
-        ∷ ‵ (froom (tyRef erased mut (tyArray (tyInt w64) 2306)) l₁₄ 0)
-        ∷ ‵ (froom (tyRef erased mut (tyArray (tyInt w64) 2306)) l₁₅ 0)
+        ∷ ‵ (froom (tyRef erased mut (tyArray (tyInt w64) roomSize)) l₁₄ 0)
+        ∷ ‵ (froom (tyRef erased mut (tyArray (tyInt w64) roomSize)) l₁₅ 0)
         ∷ ‵ (froom (tyRef erased mut (tyArray (tyInt w8) 32768)) l₁₆ 0)
         ∷ ‵ (froom (tyRef erased mut (tyArray (tyInt w8) 128)) l₁₇ 0)
         ∷ ‵ (froom (tyRef erased mut (tyInt w64)) l₁₈ 0)
@@ -169,7 +170,7 @@ module _ (z : Locals) where
         ∷ ‵ (froom tyPtr l₂₂ 0)
         ∷ ‵ (froom tyPtr l₂₃ 0)
         ∷ ‵ (froom Or′.mir l₂₄ 0)
-        ∷ ‵ (froom (tyRef erased mut (tyArray (tyInt w64) 2306)) l₂₅ 0)
+        ∷ ‵ (froom (tyRef erased mut (tyArray (tyInt w64) roomSize)) l₂₅ 0)
         ∷ ‵ (froom (tyRef erased mut (tyArray (tyInt w8) 128)) l₂₆ 0)
         ∷ ‵ (froom (tyInt w64) l₂₇ 0)
         ∷ ‵ (froom tyPtr l₂₈ 0)
@@ -185,7 +186,7 @@ module _ (z : Locals) where
         ∷ ‵ (froom tyPtr l₃₈ 0)
         ∷ ‵ (fdies Ed′.mir l₀)
         ∷ ‵ (fdies (tyRef (named 0) mut (pointee (T.the-row .written))) l₁)
-        ∷ ‵ (fdies (tyRef (named 1) mut (tyArray (tyInt w64) 2306)) l₂)
+        ∷ ‵ (fdies (tyRef (named 1) mut (tyArray (tyInt w64) roomSize)) l₂)
         ∷ ‵ (fdies (tyRef (named 2) mut (tyArray (tyInt w8) 32768)) l₃)
         ∷ ‵ (fdies (sliceTy (tyRef (named 3) imm (tyInt w8))) l₄)
         ∷ ‵ (fdies tyBool l₅)
@@ -197,8 +198,8 @@ module _ (z : Locals) where
         ∷ ‵ (fdies Or′.mir l₁₁)
         ∷ ‵ (fdies Oc′.mir l₁₂)
         ∷ ‵ (fdies (tyArray (tyInt w8) 128) l₁₃)
-        ∷ ‵ (fdies (tyRef erased mut (tyArray (tyInt w64) 2306)) l₁₄)
-        ∷ ‵ (fdies (tyRef erased mut (tyArray (tyInt w64) 2306)) l₁₅)
+        ∷ ‵ (fdies (tyRef erased mut (tyArray (tyInt w64) roomSize)) l₁₄)
+        ∷ ‵ (fdies (tyRef erased mut (tyArray (tyInt w64) roomSize)) l₁₅)
         ∷ ‵ (fdies (tyRef erased mut (tyArray (tyInt w8) 32768)) l₁₆)
         ∷ ‵ (fdies (tyRef erased mut (tyArray (tyInt w8) 128)) l₁₇)
         ∷ ‵ (fdies (tyRef erased mut (tyInt w64)) l₁₈)
@@ -208,7 +209,7 @@ module _ (z : Locals) where
         ∷ ‵ (fdies tyPtr l₂₂)
         ∷ ‵ (fdies tyPtr l₂₃)
         ∷ ‵ (fdies Or′.mir l₂₄)
-        ∷ ‵ (fdies (tyRef erased mut (tyArray (tyInt w64) 2306)) l₂₅)
+        ∷ ‵ (fdies (tyRef erased mut (tyArray (tyInt w64) roomSize)) l₂₅)
         ∷ ‵ (fdies (tyRef erased mut (tyArray (tyInt w8) 128)) l₂₆)
         ∷ ‵ (fdies (tyInt w64) l₂₇)
         ∷ ‵ (fdies tyPtr l₂₈)

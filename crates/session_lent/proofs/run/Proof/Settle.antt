@@ -34,6 +34,7 @@ use denote.Triple.Clauses.{Lasts, ensured, lasts}
 use denote.Triple.Spec.{tripleOf}
 use denote.Triple.Walked.{says}
 use Rattle.book.specs.declared.tables.Order.{Order}
+use Rattle.book_room.specs.Room.{roomSize}
 use Rattle.session.specs.Engine.{Task, AtHand, Settled}
 use Rattle.session.specs.declared.advancing.Point.{Point}
 use Rattle.session.proofs.advancing.Point as Pt
@@ -45,7 +46,7 @@ use Rattle.book.proofs.tables.Order as Or
 use Rattle.book.proofs.tables.Order.Laws as Or′
 
 abbrev Rooms : RattleType
-Rooms = Arr u64 2306
+Rooms = Arr u64 roomSize
 
 abbrev Text : RattleType
 Text = Arr u8 128

@@ -39,6 +39,7 @@ use Rattle.book.specs.Tables.{blank, noOrder}
 use Rattle.book.specs.declared.tables.Order.{Order}
 use Rattle.book.proofs.tables.Order as Or
 use Rattle.book.proofs.tables.Order.Laws as Or′
+use Rattle.book_room.specs.Room.{roomSize}
 use Rattle.session.specs.declared.state.Session.{Session}
 use Rattle.session.specs.declared.advancing.Point.{Point}
 use Rattle.session.specs.declared.settling.Outcome.{Outcome}
@@ -148,8 +149,8 @@ module _ (z : Locals) where
         ∷ ‵ (fdies (tyInt w64) l₂₇)
         ∷ ‵ (froom (tyRef erased mut (tyArray (tyInt w8) 128)) l₂₆ 0)
         ∷ ‵ (fdies (tyRef erased mut (tyArray (tyInt w8) 128)) l₂₆)
-        ∷ ‵ (froom (tyRef erased mut (tyArray (tyInt w64) 2306)) l₂₅ 0)
-        ∷ ‵ (fdies (tyRef erased mut (tyArray (tyInt w64) 2306)) l₂₅)
+        ∷ ‵ (froom (tyRef erased mut (tyArray (tyInt w64) roomSize)) l₂₅ 0)
+        ∷ ‵ (fdies (tyRef erased mut (tyArray (tyInt w64) roomSize)) l₂₅)
         ∷ ‵ (froom Or′.mir l₂₄ 0)
         ∷ ‵ (fdies Or′.mir l₂₄)
         ∷ ‵ (froom tyPtr l₂₃ 0)
@@ -168,10 +169,10 @@ module _ (z : Locals) where
         ∷ ‵ (fdies (tyRef erased mut (tyArray (tyInt w8) 128)) l₁₇)
         ∷ ‵ (froom (tyRef erased mut (tyArray (tyInt w8) 32768)) l₁₆ 0)
         ∷ ‵ (fdies (tyRef erased mut (tyArray (tyInt w8) 32768)) l₁₆)
-        ∷ ‵ (froom (tyRef erased mut (tyArray (tyInt w64) 2306)) l₁₅ 0)
-        ∷ ‵ (fdies (tyRef erased mut (tyArray (tyInt w64) 2306)) l₁₅)
-        ∷ ‵ (froom (tyRef erased mut (tyArray (tyInt w64) 2306)) l₁₄ 0)
-        ∷ ‵ (fdies (tyRef erased mut (tyArray (tyInt w64) 2306)) l₁₄)
+        ∷ ‵ (froom (tyRef erased mut (tyArray (tyInt w64) roomSize)) l₁₅ 0)
+        ∷ ‵ (fdies (tyRef erased mut (tyArray (tyInt w64) roomSize)) l₁₅)
+        ∷ ‵ (froom (tyRef erased mut (tyArray (tyInt w64) roomSize)) l₁₄ 0)
+        ∷ ‵ (fdies (tyRef erased mut (tyArray (tyInt w64) roomSize)) l₁₄)
         ∷ ‵ (froom (tyArray (tyInt w8) 128) l₁₃ 0)
         ∷ ‵ (fdies (tyArray (tyInt w8) 128) l₁₃)
         ∷ ‵ (froom Oc′.mir l₁₂ 0)
@@ -194,8 +195,8 @@ module _ (z : Locals) where
         ∷ ‵ (fdies (sliceTy (tyRef (named 3) imm (tyInt w8))) l₄)
         ∷ ‵ (froom (tyRef (named 2) mut (tyArray (tyInt w8) 32768)) l₃ 0)
         ∷ ‵ (fdies (tyRef (named 2) mut (tyArray (tyInt w8) 32768)) l₃)
-        ∷ ‵ (froom (tyRef (named 1) mut (tyArray (tyInt w64) 2306)) l₂ 0)
-        ∷ ‵ (fdies (tyRef (named 1) mut (tyArray (tyInt w64) 2306)) l₂)
+        ∷ ‵ (froom (tyRef (named 1) mut (tyArray (tyInt w64) roomSize)) l₂ 0)
+        ∷ ‵ (fdies (tyRef (named 1) mut (tyArray (tyInt w64) roomSize)) l₂)
         ∷ ‵ (froom (tyRef (named 0) mut (pointee (T.the-row .written))) l₁ 0)
         ∷ ‵ (fdies (tyRef (named 0) mut (pointee (T.the-row .written))) l₁)
         ∷ ‵ (froom Ed′.mir l₀ 0)
@@ -210,7 +211,7 @@ module _ (z : Locals) where
         ∷ ‵ (flft κ₃ q₃)
         ∷ ‵ (flft κ₂ q₂)
         ∷ ‵ (flft κ₁ q₁)
-        ∷ ‵ (flft κ q) ∷ []) (passes ((tyRef (named 0) mut (pointee (T.the-row .written)), l₁) ∷ (tyRef (named 1) mut (tyArray (tyInt w64) 2306), l₂) ∷ (tyRef (named 2) mut (tyArray (tyInt w8) 32768), l₃) ∷ (sliceTy (tyRef (named 3) imm (tyInt w8)), l₄) ∷ (tyBool, l₅) ∷ (tyInt w64, l₆) ∷ (sliceTy (tyRef (named 4) mut (tyInt w64)), l₇) ∷ (tyInt w64, l₈) ∷ (tyArray (tyInt w8) 128, l₉) ∷ (Pt′.mir, l₁₀) ∷ (Or′.mir, l₁₁) ∷ (Oc′.mir, l₁₂) ∷ (tyArray (tyInt w8) 128, l₁₃) ∷ (tyRef erased mut (tyArray (tyInt w64) 2306), l₁₄) ∷ (tyRef erased mut (tyArray (tyInt w64) 2306), l₁₅) ∷ (tyRef erased mut (tyArray (tyInt w8) 32768), l₁₆) ∷ (tyRef erased mut (tyArray (tyInt w8) 128), l₁₇) ∷ (tyRef erased mut (tyInt w64), l₁₈) ∷ (sliceTy (tyRef erased mut (tyInt w64)), l₁₉) ∷ (tyBool, l₂₀) ∷ (tyInt w64, l₂₁) ∷ (tyPtr, l₂₂) ∷ (tyPtr, l₂₃) ∷ (Or′.mir, l₂₄) ∷ (tyRef erased mut (tyArray (tyInt w64) 2306), l₂₅) ∷ (tyRef erased mut (tyArray (tyInt w8) 128), l₂₆) ∷ (tyInt w64, l₂₇) ∷ (tyPtr, l₂₈) ∷ (tyPtr, l₂₉) ∷ (Or′.mir, l₃₀) ∷ (tyInt w64, l₃₁) ∷ (tyPtr, l₃₂) ∷ (tyPtr, l₃₃) ∷ (tyPtr, l₃₄) ∷ (tyPtr, l₃₅) ∷ (tyInt w64, l₃₆) ∷ (tyPtr, l₃₇) ∷ (tyPtr, l₃₈) ∷ []) (vptr b o ∷ vptr b₁ o₁ ∷ vptr b₂ o₂ ∷ sliceVal (p₃ .ptr) (length (p₃ .now)) ∷ vbool single ∷ vint w64 count ∷ sliceVal (b₄, o₄) n₄ ∷ vint w64 due ∷ []) (runs′ (𝓣 .C) (𝓣 .Λ) (En z 𝓤 H A W) t-1 (atRet (En z 𝓤 H A W) Post)))
+        ∷ ‵ (flft κ q) ∷ []) (passes ((tyRef (named 0) mut (pointee (T.the-row .written)), l₁) ∷ (tyRef (named 1) mut (tyArray (tyInt w64) roomSize), l₂) ∷ (tyRef (named 2) mut (tyArray (tyInt w8) 32768), l₃) ∷ (sliceTy (tyRef (named 3) imm (tyInt w8)), l₄) ∷ (tyBool, l₅) ∷ (tyInt w64, l₆) ∷ (sliceTy (tyRef (named 4) mut (tyInt w64)), l₇) ∷ (tyInt w64, l₈) ∷ (tyArray (tyInt w8) 128, l₉) ∷ (Pt′.mir, l₁₀) ∷ (Or′.mir, l₁₁) ∷ (Oc′.mir, l₁₂) ∷ (tyArray (tyInt w8) 128, l₁₃) ∷ (tyRef erased mut (tyArray (tyInt w64) roomSize), l₁₄) ∷ (tyRef erased mut (tyArray (tyInt w64) roomSize), l₁₅) ∷ (tyRef erased mut (tyArray (tyInt w8) 32768), l₁₆) ∷ (tyRef erased mut (tyArray (tyInt w8) 128), l₁₇) ∷ (tyRef erased mut (tyInt w64), l₁₈) ∷ (sliceTy (tyRef erased mut (tyInt w64)), l₁₉) ∷ (tyBool, l₂₀) ∷ (tyInt w64, l₂₁) ∷ (tyPtr, l₂₂) ∷ (tyPtr, l₂₃) ∷ (Or′.mir, l₂₄) ∷ (tyRef erased mut (tyArray (tyInt w64) roomSize), l₂₅) ∷ (tyRef erased mut (tyArray (tyInt w8) 128), l₂₆) ∷ (tyInt w64, l₂₇) ∷ (tyPtr, l₂₈) ∷ (tyPtr, l₂₉) ∷ (Or′.mir, l₃₀) ∷ (tyInt w64, l₃₁) ∷ (tyPtr, l₃₂) ∷ (tyPtr, l₃₃) ∷ (tyPtr, l₃₄) ∷ (tyPtr, l₃₅) ∷ (tyInt w64, l₃₆) ∷ (tyPtr, l₃₇) ∷ (tyPtr, l₃₈) ∷ []) (vptr b o ∷ vptr b₁ o₁ ∷ vptr b₂ o₂ ∷ sliceVal (p₃ .ptr) (length (p₃ .now)) ∷ vbool single ∷ vint w64 count ∷ sliceVal (b₄, o₄) n₄ ∷ vint w64 due ∷ []) (runs′ (𝓣 .C) (𝓣 .Λ) (En z 𝓤 H A W) t-1 (atRet (En z 𝓤 H A W) Post)))
     passing packets-room =
         pass1 ! (init ! 74 refl (tt, tt)) $
         pass1 ! (init ! 72 refl (tt, tt)) $

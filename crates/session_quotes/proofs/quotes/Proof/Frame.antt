@@ -31,7 +31,7 @@ use Rattle.session_quotes.proofs.questions.Quest as Qt
 use Rattle.session_quotes.proofs.questions.Quest.Laws as Qt′
 
 abbrev pub Rooms : RattleType
-Rooms = Arr u64 2306
+Rooms = Arr u64 2308
 
 abbrev pub reft : ℕ → ℕ → GName → List ℕ → RefT (List ℕ)
 reft b o name xs = record { ptr = (b, o); name = name; now = xs }
@@ -67,7 +67,7 @@ module _ (z : Locals) where
 
   module _ {M : Type 1} (𝓤 : URA M) (H : Heap 𝓤) (A : Atoms 𝓤) (W : Given 𝓤 H A) where
     abbrev pub En : Env 𝓤 H
-    En = (tyInt w64, (l 0)) ∷ (tyRef (named 0) imm (pointee (T.the-row .written)), (l 1)) ∷ (tyRef (named 1) imm (tyArray (tyInt w64) 2306), (l 2)) ∷ (sliceTy (tyRef (named 2) imm (tyInt w8)), (l 3)) ∷ (sliceTy (tyRef (named 3) mut (tyInt w64)), (l 4)) ∷ (Qt′.mir, (l 5)) ∷ (Lv′.mir, (l 6)) ∷ (tyInt w64, (l 7)) ∷ (Or′.mir, (l 8)) ∷ (tyInt w64, (l 9)) ∷ (tyInt w64, (l 10)) ∷ (tyRef erased mut (tyInt w64), (l 11)) ∷ (sliceTy (tyRef erased mut (tyInt w64)), (l 12)) ∷ (tyBool, (l 13)) ∷ (tyBool, (l 14)) ∷ (tyInt w64, (l 15)) ∷ (tyPtr, (l 16)) ∷ (tyPtr, (l 17)) ∷ (Or′.mir, (l 18)) ∷ []
+    En = (tyInt w64, (l 0)) ∷ (tyRef (named 0) imm (pointee (T.the-row .written)), (l 1)) ∷ (tyRef (named 1) imm (tyArray (tyInt w64) 2308), (l 2)) ∷ (sliceTy (tyRef (named 2) imm (tyInt w8)), (l 3)) ∷ (sliceTy (tyRef (named 3) mut (tyInt w64)), (l 4)) ∷ (Qt′.mir, (l 5)) ∷ (Lv′.mir, (l 6)) ∷ (tyInt w64, (l 7)) ∷ (Or′.mir, (l 8)) ∷ (tyInt w64, (l 9)) ∷ (tyInt w64, (l 10)) ∷ (tyRef erased mut (tyInt w64), (l 11)) ∷ (sliceTy (tyRef erased mut (tyInt w64)), (l 12)) ∷ (tyBool, (l 13)) ∷ (tyBool, (l 14)) ∷ (tyInt w64, (l 15)) ∷ (tyPtr, (l 16)) ∷ (tyPtr, (l 17)) ∷ (Or′.mir, (l 18)) ∷ []
 
     abbrev pub asking : Item 𝓤
     asking = ‵ (ShrSlice (named 2) κ₂ u8 .own p₂ (slice-vals p₂))
@@ -91,7 +91,7 @@ module _ (z : Locals) where
         ∷ ‵ (flft κ₁ q₁)
         ∷ ‵ (froom (tyInt w64) (l 0) 0)
         ∷ ‵ (fat fullShare (tyRef (named 0) imm (pointee (T.the-row .written))) (l 1) 0 (vptr b o))
-        ∷ ‵ (fat fullShare (tyRef (named 1) imm (tyArray (tyInt w64) 2306)) (l 2) 0 (vptr (p₁ .ptr .0) (p₁ .ptr .1)))
+        ∷ ‵ (fat fullShare (tyRef (named 1) imm (tyArray (tyInt w64) 2308)) (l 2) 0 (vptr (p₁ .ptr .0) (p₁ .ptr .1)))
         ∷ ‵ (fat fullShare (sliceTy (tyRef (named 2) imm (tyInt w8))) (l 3) 0 (sliceVal (p₂ .ptr) (length (p₂ .now))))
         ∷ ‵ (fat fullShare (sliceTy (tyRef (named 3) mut (tyInt w64))) (l 4) 0 (sliceVal (b₃, o₃) n₃))
         ∷ quest
@@ -110,7 +110,7 @@ module _ (z : Locals) where
         ∷ ‵ (froom Or′.mir (l 18) 0)
         ∷ ‵ (fdies (tyInt w64) (l 0))
         ∷ ‵ (fdies (tyRef (named 0) imm (pointee (T.the-row .written))) (l 1))
-        ∷ ‵ (fdies (tyRef (named 1) imm (tyArray (tyInt w64) 2306)) (l 2))
+        ∷ ‵ (fdies (tyRef (named 1) imm (tyArray (tyInt w64) 2308)) (l 2))
         ∷ ‵ (fdies (sliceTy (tyRef (named 2) imm (tyInt w8))) (l 3))
         ∷ ‵ (fdies (sliceTy (tyRef (named 3) mut (tyInt w64))) (l 4))
         ∷ ‵ (fdies Qt′.mir (l 5))

@@ -162,8 +162,8 @@ module _ (z : Locals) (rs₀ : List ℕ) where
         ∷ ‵ (fdies (sliceTy (tyRef (named 3) mut (tyInt w64))) (l z 4))
         ∷ ‵ (froom (sliceTy (tyRef (named 2) imm (tyInt w8))) (l z 3) 0)
         ∷ ‵ (fdies (sliceTy (tyRef (named 2) imm (tyInt w8))) (l z 3))
-        ∷ ‵ (froom (tyRef (named 1) imm (tyArray (tyInt w64) 2306)) (l z 2) 0)
-        ∷ ‵ (fdies (tyRef (named 1) imm (tyArray (tyInt w64) 2306)) (l z 2))
+        ∷ ‵ (froom (tyRef (named 1) imm (tyArray (tyInt w64) 2308)) (l z 2) 0)
+        ∷ ‵ (fdies (tyRef (named 1) imm (tyArray (tyInt w64) 2308)) (l z 2))
         ∷ ‵ (froom (tyRef (named 0) imm (pointee (T.the-row .written))) (l z 1) 0)
         ∷ ‵ (fdies (tyRef (named 0) imm (pointee (T.the-row .written))) (l z 1))
         ∷ ‵ (froom (tyInt w64) (l z 0) 0)
@@ -175,7 +175,7 @@ module _ (z : Locals) (rs₀ : List ℕ) where
         ∷ ‵ (flft κ₃ q₃)
         ∷ ‵ (flft κ₂ q₂)
         ∷ ‵ (flft κ₁ q₁)
-        ∷ ‵ (flft κ q) ∷ []) (passes ((tyRef (named 0) imm (pointee (T.the-row .written)), l z 1) ∷ (tyRef (named 1) imm (tyArray (tyInt w64) 2306), l z 2) ∷ (sliceTy (tyRef (named 2) imm (tyInt w8)), l z 3) ∷ (sliceTy (tyRef (named 3) mut (tyInt w64)), l z 4) ∷ (Qt′.mir, l z 5) ∷ (Lv′.mir, l z 6) ∷ (tyInt w64, l z 7) ∷ (Or′.mir, l z 8) ∷ (tyInt w64, l z 9) ∷ (tyInt w64, l z 10) ∷ (tyRef erased mut (tyInt w64), l z 11) ∷ (sliceTy (tyRef erased mut (tyInt w64)), l z 12) ∷ (tyBool, l z 13) ∷ (tyBool, l z 14) ∷ (tyInt w64, l z 15) ∷ (tyPtr, l z 16) ∷ (tyPtr, l z 17) ∷ (Or′.mir, l z 18) ∷ []) (vptr b o ∷ vptr (p₁ .ptr .0) (p₁ .ptr .1) ∷ sliceVal (p₂ .ptr) (length (p₂ .now)) ∷ sliceVal (b₃, o₃) n₃ ∷ []) (runs′ (𝓣 .C) (𝓣 .Λ) (En z 𝓤 H A W) t-1 (atRet (En z 𝓤 H A W) Post)))
+        ∷ ‵ (flft κ q) ∷ []) (passes ((tyRef (named 0) imm (pointee (T.the-row .written)), l z 1) ∷ (tyRef (named 1) imm (tyArray (tyInt w64) 2308), l z 2) ∷ (sliceTy (tyRef (named 2) imm (tyInt w8)), l z 3) ∷ (sliceTy (tyRef (named 3) mut (tyInt w64)), l z 4) ∷ (Qt′.mir, l z 5) ∷ (Lv′.mir, l z 6) ∷ (tyInt w64, l z 7) ∷ (Or′.mir, l z 8) ∷ (tyInt w64, l z 9) ∷ (tyInt w64, l z 10) ∷ (tyRef erased mut (tyInt w64), l z 11) ∷ (sliceTy (tyRef erased mut (tyInt w64)), l z 12) ∷ (tyBool, l z 13) ∷ (tyBool, l z 14) ∷ (tyInt w64, l z 15) ∷ (tyPtr, l z 16) ∷ (tyPtr, l z 17) ∷ (Or′.mir, l z 18) ∷ []) (vptr b o ∷ vptr (p₁ .ptr .0) (p₁ .ptr .1) ∷ sliceVal (p₂ .ptr) (length (p₂ .now)) ∷ sliceVal (b₃, o₃) n₃ ∷ []) (runs′ (𝓣 .C) (𝓣 .Λ) (En z 𝓤 H A W) t-1 (atRet (En z 𝓤 H A W) Post)))
     passing =
         pass1 ! (init ! 34 refl (tt, tt)) $ pass1 ! (init ! 32 refl (tt, tt)) $ pass1 ! (init ! 30 refl (tt, (tt, (record { fits = asked-room .0 }, tt)))) $ pass1 ! (init ! 28 refl (tt, (tt, (record { fits = space .0 }, tt)))) $ pass0 ! $
         move ! (41 ∷ 45 ∷ []) $ shr-bor-open ! tt (part-halves 𝓤 H A W T.the-row (Is T.the-row) (shows 𝓤 H A T.the-row) (LL.vals T.the-type T′.the-laws) (LL.tells T.the-type T′.the-laws) (LL.copy T.the-type T′.the-copy 𝓤 H A W) h b o) (λ part.
