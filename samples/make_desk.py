@@ -39,6 +39,7 @@ def no_commands():
     every(["", " ", "status", "STATE", "bad", "state\r", "\tstate"], "bad")
     every([" state", "state ", "open  1", "open 1 "], "bad")
     every(["state 1", "open", "open 1 2", "take", "take - -", "order", "inside", "value", "walk"], "bad")
+    every(["unlisted 1", "unlisted -", "unlisted ", "Unlisted", "rule 1", "rule default", "rules", "RULE", "strict"], "bad")
     every(["requests", "header", "message", "best " + SHARE, "rewrite - 0", "rehead 12 0 1 0 0"], "bad")
     every(["best " + SHARE + " 66 66", "rewrite - 0 0 0", "rehead 12 0 1 0 0 12 12"], "bad")
 
@@ -53,6 +54,27 @@ def numbers():
     case("open " + "8".rjust(8188, "0"), "bad")
     case("state", "7 7 0 0")
     case("x" * 40000, "bad")
+
+
+# A bad line changes nothing, whichever the rule.
+def rules():
+    others = ["open 6 STRICT", "open 6 default", "open 6 stric", "open 6 strictly", "open 6 strict x", "open 6 strict "]
+    others += ["open x strict", "open - strict", "open -1 strict", "open 4294967296 strict", "open strict 6", "open strict"]
+    case("open 5 strict", "ok")
+    case("state", "5 5 0 0")
+    case("rule", "rule strict")
+    case("unlisted", "unlisted 0")
+    every(others + ["strict 6"], "bad")
+    case("state", "5 5 0 0")
+    case("rule", "rule strict")
+    case("open 5", "ok")
+    case("rule", "rule default")
+    every(others, "bad")
+    case("state", "5 5 0 0")
+    case("rule", "rule default")
+    case("open 004294967295 strict", "ok")
+    case("state", "4294967295 4294967295 0 0")
+    case("rule", "rule strict")
 
 
 def hex_digits():
@@ -230,11 +252,13 @@ def faults():
     given("take", packet(102, executed(3, FIRST, 100, 199), executed(4, FIRST, 300, 0)), "ok 2")
     case("state", "104 104 0 2 101 6")
     case("order " + ID, "refused 13")
-    firsts = [(message(99), 1), (session(2), 2), (delete(1, SECOND), 5), (executed(3, SECOND, 1, 0), 5)]
-    for fault, reason in firsts:
-        case("open 0", "ok")
-        given("take", packet(0, fault), "ok 1")
-        case("state", "1 1 0 1 0 %d" % reason)
+    firsts = [(session(2), 2), (delete(1, SECOND), 5), (executed(3, SECOND, 1, 0), 5)]
+    for opening, faults in [("open 0 strict", [(message(99), 1), *firsts]), ("open 0", firsts)]:
+        for fault, reason in faults:
+            case(opening, "ok")
+            given("take", packet(0, fault), "ok 1")
+            case("state", "1 1 0 1 0 %d" % reason)
+            case("unlisted", "unlisted 0")
     case("open 4294967295", "ok")
     given("take", packet(4294967295, sell), "ok 1")
     case("state", "4294967296 4294967296 0 0")
@@ -270,11 +294,200 @@ def full_tables():
     case("inside " + SHARE, "refused 13")
 
 
+def keeps():
+    every(["keep", "keep - -", "keep 0", "keep 00c", "keep 0g", "Keep -"], "bad")
+    every(["apply", "apply 1 1", "apply -", "apply -1", "apply 1a", "apply 18446744073709551616"], "bad")
+    every(["lowest 1", "lowest -"], "bad")
+    case("open 10", "ok")
+    case("lowest", "lowest 10")
+    case("apply 1", "applied 0")
+    given("keep", packet(11, message(28), message(28)), "kept 2")
+    case("state", "10 13 0 0")
+    case("lowest", "lowest 10")
+    case("apply 18446744073709551615", "applied 0")
+    case("requests 12", "requests 1 000c720000000a0000000159")
+    given("keep", packet(10, message(28), message(28)), "kept 1")
+    case("state", "10 13 0 0")
+    case("lowest", "lowest 13")
+    case("requests 0", "requests 0 -")
+    given("keep", packet(10, message(28), message(28), message(28)), "kept 0")
+    given("keep", packet(11, message(28, b"x")), "refused 10")
+    case("keep -", "refused 1")
+    given("keep", packet(266, message(28)), "refused 9")
+    given("keep", packet(265, message(28)), "kept 1")
+    case("state", "10 266 0 0")
+    case("lowest", "lowest 13")
+    case("requests 12", "requests 1 000c720000000d000000fc59")
+    case("apply 0", "applied 0")
+    case("apply 1", "applied 1")
+    case("state", "11 266 0 0")
+
+
+# Some wait and some were applied; then a packet is taken, which applies what it can.
+def kept_and_taken():
+    given("keep", packet(266, message(28)), "kept 1")
+    given("keep", packet(10, message(28, b"x")), "kept 0")
+    given("take", packet(12, message(28, b"x")), "refused 10")
+    given("take", packet(267, message(28)), "refused 9")
+    case("state", "11 267 0 0")
+    given("take", heartbeat(300), "ok 2")
+    case("state", "13 300 0 0")
+    case("lowest", "lowest 13")
+    case("requests 24", "requests 2 000c720000000d000000fc59000c720000010b0000000259")
+    given("keep", heartbeat(301), "kept 0")
+    given("keep", heartbeat(299), "kept 0")
+    case("state", "13 301 0 0")
+    case("apply 1", "applied 0")
+
+
+# An order and an unlisted type, which do nothing while they wait.
+def applied():
+    for opening, last, apart in [("open 1 strict", "3 3 0 1 2 1", 0), ("open 1", "3 3 0 0", 1)]:
+        case(opening, "ok")
+        given("keep", packet(1, add(1, FIRST, b"B", 300, 1250000), message(99)), "kept 2")
+        case("state", "1 3 0 0")
+        case("order " + ID, "refused 13")
+        case("apply 1", "applied 1")
+        case("state", "2 3 0 0")
+        case("unlisted", "unlisted 0")
+        case("order " + ID, "order " + VALUE + " 66 300 " + SHARE + " 1250000 " + FIRM + " 78")
+        case("apply 0005", "applied 1")
+        case("state", last)
+        case("unlisted", "unlisted %d" % apart)
+
+
+def full_window():
+    case("open 0", "ok")
+    given("keep", packet(0, *[message(28)] * 255), "kept 255")
+    given("keep", packet(255, message(28)), "kept 1")
+    given("keep", packet(256, message(28)), "refused 9")
+    case("lowest", "lowest 256")
+    case("apply 1", "applied 1")
+    given("keep", packet(256, message(28)), "kept 1")
+    case("lowest", "lowest 257")
+    case("apply 100", "applied 100")
+    case("apply 18446744073709551615", "applied 156")
+    case("apply 18446744073709551615", "applied 0")
+    case("state", "257 257 0 0")
+    case("lowest", "lowest 257")
+
+
+# By default an unlisted type is counted apart, strictly it is fault 1.
+def unlisted():
+    for kind in [0, 10, 29, 255]:
+        case("open 7", "ok")
+        given("take", packet(7, message(kind)), "ok 1")
+        case("state", "8 8 0 0")
+        case("unlisted", "unlisted 1")
+        case("open 7 strict", "ok")
+        given("take", packet(7, message(kind)), "ok 1")
+        case("state", "8 8 0 1 7 1")
+        case("unlisted", "unlisted 0")
+    several = packet(7, message(0), message(10, b"x"), message(28), message(29), message(255, bytes(125)))
+    case("open 7", "ok")
+    given("take", several, "ok 5")
+    given("take", several, "ok 0")
+    case("state", "12 12 0 0")
+    case("unlisted", "unlisted 4")
+    case("open 7 strict", "ok")
+    case("unlisted", "unlisted 0")
+    given("take", several, "ok 5")
+    given("take", several, "ok 0")
+    case("state", "12 12 0 4 7 1")
+    case("unlisted", "unlisted 0")
+    # an opening starts anew
+    case("open 7", "ok")
+    case("state", "7 7 0 0")
+    given("take", several, "ok 5")
+    case("unlisted", "unlisted 4")
+    case("open 7", "ok")
+    case("unlisted", "unlisted 0")
+    case("open 4294967295", "ok")
+    given("take", packet(4294967295, message(0)), "ok 1")
+    case("state", "4294967296 4294967296 0 0")
+    case("unlisted", "unlisted 1")
+
+
+# The types that are listed and have no effect, one Imbalance with bytes behind its type.
+def listed():
+    some = [message(28), message(28, b"more"), trade(7, 8, 9), message(11, b"\1", number(2, 8), number(3, 4))]
+    some += [message(9, SYMBOL, number(1, 8), b"\2\3", number(4, 4), number(5, 2), b"\6\7\x08")]
+    some += [message(12, b"\1", number(2, 4), number(3, 8), number(4, 4))]
+    for opening in ["open 7", "open 7 strict"]:
+        case(opening, "ok")
+        given("take", packet(7, *some), "ok 6")
+        case("state", "13 13 0 0")
+        case("unlisted", "unlisted 0")
+
+
+# The first fault's number and reason are those of a fault, and an unlisted type changes nothing else.
+def among_faults():
+    mixed = packet(100, message(99), delete(1, SECOND), message(99), executed(3, SECOND, 1, 0))
+    case("open 100", "ok")
+    given("take", mixed, "ok 4")
+    case("state", "104 104 0 2 101 5")
+    case("unlisted", "unlisted 2")
+    case("open 100 strict", "ok")
+    given("take", mixed, "ok 4")
+    case("state", "104 104 0 4 100 1")
+    case("unlisted", "unlisted 0")
+    case("open 100 strict", "ok")
+    given("take", packet(100, delete(1, SECOND), message(99), message(28)), "ok 3")
+    case("state", "103 103 0 2 100 5")
+    case("unlisted", "unlisted 0")
+    like = [message(29, delete(2, FIRST)[3:]), message(19, session(6)[3:])]
+    for opening, last, apart in [("open 1", "5 5 5 0", 2), ("open 1 strict", "5 5 5 2 3 1", 0)]:
+        case(opening, "ok")
+        given("take", packet(1, add(1, FIRST, b"B", 300, 1250000), session(5), *like), "ok 4")
+        case("state", last)
+        case("unlisted", "unlisted %d" % apart)
+        case("best " + SHARE + " 66", "best 1250000 300 1")
+
+
+# What waits is counted when it is applied, what is old or refused never.
+def counted_once():
+    case("open 10", "ok")
+    given("take", packet(11, message(0), message(29)), "ok 0")
+    given("take", packet(11, message(10)), "refused 10")
+    case("unlisted", "unlisted 0")
+    given("take", packet(10, message(255)), "ok 3")
+    case("unlisted", "unlisted 3")
+    given("take", packet(10, message(255), message(0)), "ok 0")
+    given("take", heartbeat(20), "ok 0")
+    case("state", "13 20 0 0")
+    case("unlisted", "unlisted 3")
+    three = packet(10, message(0), message(29), message(99))
+    case("open 10", "ok")
+    given("keep", three, "kept 3")
+    given("keep", three, "kept 0")
+    case("unlisted", "unlisted 0")
+    case("apply 1", "applied 1")
+    case("unlisted", "unlisted 1")
+    given("keep", three, "kept 0")
+    given("take", three, "ok 2")
+    case("state", "13 13 0 0")
+    case("unlisted", "unlisted 3")
+    case("apply 5", "applied 0")
+    case("unlisted", "unlisted 3")
+    case("open 10 strict", "ok")
+    given("keep", three, "kept 3")
+    case("state", "10 13 0 0")
+    case("apply 2", "applied 2")
+    case("state", "12 13 0 2 10 1")
+    given("take", three, "ok 1")
+    case("state", "13 13 0 3 10 1")
+    case("unlisted", "unlisted 0")
+
+
 def main():
     case("state", "0 0 0 0")
-    for group in [no_commands, numbers, hex_digits, ids, headers, messages, unread, rewrites, reheads, walks]:
+    case("rule", "rule default")
+    case("unlisted", "unlisted 0")
+    for group in [no_commands, numbers, rules, hex_digits, ids, headers, messages, unread, rewrites, reheads, walks]:
         group()
-    for group in [window, refusals, orders, faults, insides, full_tables]:
+    for group in [window, refusals, orders, faults, insides, full_tables, keeps, kept_and_taken, applied, full_window]:
+        group()
+    for group in [unlisted, listed, among_faults, counted_once]:
         group()
     # the last line has no line feed
     case("open 3", "ok")

@@ -12,7 +12,7 @@ use window::places::Window;
 ghost use lib.ListN.{length};
 ghost use Rattle.session.specs.Meaning.{held, Ruled};
 ghost use Rattle.session.specs.declared.state.Session.{Session as Table};
-ghost use Rattle.capture.specs.Replays.{Replays};
+ghost use Rattle.capture.specs.Replays.{Replays, Strictly};
 
 // The session behind the records taken, how far they went, and whether a record has no mark.
 struct Replayed {
@@ -21,7 +21,8 @@ struct Replayed {
     unmarked: bool,
 }
 
-// Before the first record a session is opened at its number.
+// Before the first record a session is opened at its number, by the strict rule: a capture shows each type that is not in
+// the table as a fault.
 fn opened(
     session: Session,
     room: &mut Room,
@@ -29,8 +30,8 @@ fn opened(
     fresh: bool,
     bytes: &[u8],
 ) -> Session
-    requires { ⌜ Ruled (held session (now room) (now window)) ⌝ }
-    ensures { λ r. ⌜ Ruled (held r (now (room .exit)) (now (window .exit))) ⌝ }
+    requires { ⌜ Strictly (held session (now room) (now window)) ⌝ }
+    ensures { λ r. ⌜ Strictly (held r (now (room .exit)) (now (window .exit))) ⌝ }
 {
     if !fresh {
         return session;
@@ -51,7 +52,7 @@ fn replay(
     fresh: bool,
     bytes: &[u8],
 ) -> Replayed
-    requires { ⌜ Ruled (held session (now room) (now window)) ⌝ }
+    requires { ⌜ Strictly (held session (now room) (now window)) ⌝ }
     ensures { λ r. ⌜ Replays r (now (room .exit)) (now (window .exit)) (length (now (bytes .entry))) ⌝ }
 {
     let mut session = opened(session, room, window, fresh, bytes);

@@ -36,6 +36,7 @@ use Rattle.packet_reader.proofs.read.refusal as reader-refusal
 use Rattle.packet_reader.proofs.read.step as reader-step
 use Rattle.book.proofs.asking.best.Reads as book-best
 use Rattle.session.proofs.state.Session.open.Reads as session-open
+use Rattle.session.proofs.state.Session.open_strict.Reads as session-open-strict
 use Rattle.session.proofs.packets.take.Reads as session-take
 use Rattle.session.proofs.packets.burst.Reads as session-burst
 use Rattle.session.proofs.packets.apply.Reads as session-apply
@@ -47,6 +48,9 @@ use Rattle.session.proofs.asking.end.Reads as session-end
 use Rattle.session.proofs.asking.lowest.Reads as session-lowest
 use Rattle.session.proofs.asking.code.Reads as session-code
 use Rattle.session.proofs.asking.faults.Reads as session-faults
+use Rattle.session.proofs.asking.doubtful.Reads as session-doubtful
+use Rattle.session.proofs.asking.rule.Reads as session-rule
+use Rattle.session.proofs.asking.unlisted.Reads as session-unlisted
 use Rattle.session.proofs.asking.order.Reads as session-order
 use Rattle.session.proofs.asking.best.Reads as session-best
 use Rattle.session.proofs.asking.inside.Reads as session-inside
@@ -68,7 +72,10 @@ use Rattle.exports.proofs.jangsebit_pass.Reads as exports-pass
 use Rattle.exports.proofs.jangsebit_keep.Reads as exports-keep
 use Rattle.exports.proofs.jangsebit_keep_packets.Reads as exports-keep-packets
 use Rattle.exports.proofs.jangsebit_lowest.Reads as exports-lowest
+use Rattle.exports.proofs.jangsebit_rule.Reads as exports-rule
+use Rattle.exports.proofs.jangsebit_unlisted.Reads as exports-unlisted
 use Rattle.exports.proofs.jangsebit_open as exports-open
+use Rattle.exports.proofs.jangsebit_open_strict as exports-open-strict
 use Rattle.exports.proofs.jangsebit_packets as exports-packets
 use Rattle.exports.proofs.jangsebit_apply as exports-apply
 use Rattle.exports.proofs.jangsebit_order as exports-order
@@ -187,6 +194,9 @@ pub record Sessions : Type 0 where
   pub session-open-once : Once session-open.Post
   pub session-open-room : Fixes session-open.Post (λ κs r s. now (s .1 .0))
   pub session-open-window : Fixes session-open.Post (λ κs r s. now (s .1 .1 .0))
+  pub session-open-strict-once : Once session-open-strict.Post
+  pub session-open-strict-room : Fixes session-open-strict.Post (λ κs r s. now (s .1 .0))
+  pub session-open-strict-window : Fixes session-open-strict.Post (λ κs r s. now (s .1 .1 .0))
   pub session-take-once : Once session-take.Post
   pub session-take-room : Fixes session-take.Post (λ κs r s. now (s .1 .0))
   pub session-take-window : Fixes session-take.Post (λ κs r s. now (s .1 .1 .0))
@@ -213,6 +223,9 @@ pub record Sessions : Type 0 where
   pub session-end-once : Once session-end.Post
   pub session-code-once : Once session-code.Post
   pub session-faults-once : Once session-faults.Post
+  pub session-doubtful-once : Once session-doubtful.Post
+  pub session-rule-once : Once session-rule.Post
+  pub session-unlisted-once : Once session-unlisted.Post
   pub session-order-once : Once session-order.Post
   pub session-best-once : Once session-best.Post
   pub session-inside-once : Once session-inside.Post
@@ -226,6 +239,9 @@ sessions =
       session-open-once = named (λ κs a r s p. session-of (p .0));
       session-open-room = named (λ κs a r s p. room-of (p .0));
       session-open-window = named (λ κs a r s p. window-of (p .0));
+      session-open-strict-once = named (λ κs a r s p. session-of (p .0));
+      session-open-strict-room = named (λ κs a r s p. room-of (p .0));
+      session-open-strict-window = named (λ κs a r s p. window-of (p .0));
       session-take-once = λ κs a one other s t p q. λ i. record { session = session-of (once (p .0) (q .0)) i; answer = once (p .1 .0) (q .1 .0) i };
       session-take-room = named (λ κs a r s p. room-of (p .0));
       session-take-window = named (λ κs a r s p. window-of (p .0));
@@ -251,6 +267,9 @@ sessions =
       session-end-once = named (λ κs a r s p. p);
       session-code-once = named (λ κs a r s p. p);
       session-faults-once = named (λ κs a r s p. p);
+      session-doubtful-once = named (λ κs a r s p. p);
+      session-rule-once = named (λ κs a r s p. p);
+      session-unlisted-once = named (λ κs a r s p. p);
       session-order-once = named (λ κs a r s p. p);
       session-best-once = named (λ κs a r s p. p);
       session-inside-once = named (λ κs a r s p. p);
@@ -298,6 +317,8 @@ pub record Exports : Type 0 where
   pub exports-keep-packets-room : (κs : _) (a : _) (one other : _) (s t : _) → exports-keep-packets.Post κs a one s → exports-keep-packets.Post κs a other t → (session : Session) → Ruled (held session (now (a .0)) (now (a .1 .0))) → now (s .0) ≡ now (t .0)
   pub exports-keep-packets-window : (κs : _) (a : _) (one other : _) (s t : _) → exports-keep-packets.Post κs a one s → exports-keep-packets.Post κs a other t → (session : Session) → Ruled (held session (now (a .0)) (now (a .1 .0))) → now (s .1 .0) ≡ now (t .1 .0)
   pub exports-lowest-once : Once exports-lowest.Post
+  pub exports-rule-once : Once exports-rule.Post
+  pub exports-unlisted-once : Once exports-unlisted.Post
 
 pub exports : Exports
 exports =
@@ -338,9 +359,11 @@ exports =
       exports-keep-packets-room = λ κs a one other s t p q session rule. room-of (once (p .1 .1 .0 session rule) (q .1 .1 .0 session rule));
       exports-keep-packets-window = λ κs a one other s t p q session rule. window-of (once (p .1 .1 .0 session rule) (q .1 .1 .0 session rule));
       exports-lowest-once = named (λ κs a r s p. p);
+      exports-rule-once = named (λ κs a r s p. p);
+      exports-unlisted-once = named (λ κs a r s p. p);
     }
 
--- the five that are lent the orders: their walks are by hand, and their clauses are told as the reader's are
+-- the six that are lent the orders: their walks are by hand, and their clauses are told as the reader's are
 
 abbrev order-refusal : (κs : _) (session : _) (room : _) (id : _) (told : _) (session′ : _) (room′ : _) (id′ : _) (told′ : _) (r : _) → Told (λ w. exports-order.ensures-refusal (w .𝓤) (w .H) κs (w .𝓖 .A) (w .𝓜 .mem) (w .𝓡 .run) session room id told session′ room′ id′ told′ r)
 order-refusal κs session room id told session′ room′ id′ told′ r = all-models _ (λ w. r-last _) (λ w. refl) (λ w. refl) (λ w. refl)
@@ -356,6 +379,9 @@ quotes-replies κs session room asked replies session′ room′ asked′ replie
 
 abbrev open-held : (κs : _) (session : _) (room : _) (window : _) (number : _) (session′ : _) (room′ : _) (window′ : _) (number′ : _) (r : _) → Told (λ w. exports-open.ensures-opened (w .𝓤) (w .H) κs (w .𝓖 .A) (w .𝓜 .mem) (w .𝓡 .run) session room window number session′ room′ window′ number′ r)
 open-held κs session room window number session′ room′ window′ number′ r = all-models _ (λ w. r-last _) (λ w. refl) (λ w. refl) (λ w. refl)
+
+abbrev open-strict-held : (κs : _) (session : _) (room : _) (window : _) (number : _) (session′ : _) (room′ : _) (window′ : _) (number′ : _) (r : _) → Told (λ w. exports-open-strict.ensures-opened (w .𝓤) (w .H) κs (w .𝓖 .A) (w .𝓜 .mem) (w .𝓡 .run) session room window number session′ room′ window′ number′ r)
+open-strict-held κs session room window number session′ room′ window′ number′ r = all-models _ (λ w. r-last _) (λ w. refl) (λ w. refl) (λ w. refl)
 
 abbrev packets-held : (κs : _) (session : _) (room : _) (window : _) (packets : _) (single : _) (count : _) (answers : _) (told : _) (session′ : _) (room′ : _) (window′ : _) (packets′ : _) (single′ : _) (count′ : _) (answers′ : _) (told′ : _) (r : _) → Told (λ w. exports-packets.ensures-taken (w .𝓤) (w .H) κs (w .𝓖 .A) (w .𝓜 .mem) (w .𝓡 .run) session room window packets single count answers told session′ room′ window′ packets′ single′ count′ answers′ told′ r)
 packets-held κs session room window packets single count answers told session′ room′ window′ packets′ single′ count′ answers′ told′ r = all-models _ (λ w. r-last _) (λ w. refl) (λ w. refl) (λ w. refl)
@@ -401,6 +427,15 @@ exports-open-room κs session room window number number′ session₁ room₁ wi
 
 pub exports-open-window : (κs : _) (session : _) (room : _) (window : _) (number : _) (number′ : _) (session₁ : _) (room₁ : _) (window₁ : _) (session₂ : _) (room₂ : _) (window₂ : _) (r q : _) → AllOf (open-held κs session room window number (record { entry = session; exit = session₁ }) (record { entry = room; exit = room₁ }) (record { entry = window; exit = window₁ }) number′ r .tells) → AllOf (open-held κs session room window number (record { entry = session; exit = session₂ }) (record { entry = room; exit = room₂ }) (record { entry = window; exit = window₂ }) number′ q .tells) → now window₁ ≡ now window₂
 exports-open-window κs session room window number number′ session₁ room₁ window₁ session₂ room₂ window₂ r q one other = window-of (once one other)
+
+pub exports-open-strict-session : (κs : _) (session : _) (room : _) (window : _) (number : _) (number′ : _) (session₁ : _) (room₁ : _) (window₁ : _) (session₂ : _) (room₂ : _) (window₂ : _) (r q : _) → AllOf (open-strict-held κs session room window number (record { entry = session; exit = session₁ }) (record { entry = room; exit = room₁ }) (record { entry = window; exit = window₁ }) number′ r .tells) → AllOf (open-strict-held κs session room window number (record { entry = session; exit = session₂ }) (record { entry = room; exit = room₂ }) (record { entry = window; exit = window₂ }) number′ q .tells) → now session₁ ≡ now session₂
+exports-open-strict-session κs session room window number number′ session₁ room₁ window₁ session₂ room₂ window₂ r q one other = session-of (once one other)
+
+pub exports-open-strict-room : (κs : _) (session : _) (room : _) (window : _) (number : _) (number′ : _) (session₁ : _) (room₁ : _) (window₁ : _) (session₂ : _) (room₂ : _) (window₂ : _) (r q : _) → AllOf (open-strict-held κs session room window number (record { entry = session; exit = session₁ }) (record { entry = room; exit = room₁ }) (record { entry = window; exit = window₁ }) number′ r .tells) → AllOf (open-strict-held κs session room window number (record { entry = session; exit = session₂ }) (record { entry = room; exit = room₂ }) (record { entry = window; exit = window₂ }) number′ q .tells) → now room₁ ≡ now room₂
+exports-open-strict-room κs session room window number number′ session₁ room₁ window₁ session₂ room₂ window₂ r q one other = room-of (once one other)
+
+pub exports-open-strict-window : (κs : _) (session : _) (room : _) (window : _) (number : _) (number′ : _) (session₁ : _) (room₁ : _) (window₁ : _) (session₂ : _) (room₂ : _) (window₂ : _) (r q : _) → AllOf (open-strict-held κs session room window number (record { entry = session; exit = session₁ }) (record { entry = room; exit = room₁ }) (record { entry = window; exit = window₁ }) number′ r .tells) → AllOf (open-strict-held κs session room window number (record { entry = session; exit = session₂ }) (record { entry = room; exit = room₂ }) (record { entry = window; exit = window₂ }) number′ q .tells) → now window₁ ≡ now window₂
+exports-open-strict-window κs session room window number number′ session₁ room₁ window₁ session₂ room₂ window₂ r q one other = window-of (once one other)
 
 pub exports-packets-session : (κs : _) (session : _) (room : _) (window : _) (packets : _) (single : _) (count : _) (answers : _) (told : _) (packets′ : _) (single′ : _) (count′ : _) (answers′ : _) (told′ : _) (session₁ : _) (room₁ : _) (window₁ : _) (session₂ : _) (room₂ : _) (window₂ : _) (r q : _) → AllOf (packets-held κs session room window packets single count answers told (record { entry = session; exit = session₁ }) (record { entry = room; exit = room₁ }) (record { entry = window; exit = window₁ }) packets′ single′ count′ answers′ told′ r .tells) → AllOf (packets-held κs session room window packets single count answers told (record { entry = session; exit = session₂ }) (record { entry = room; exit = room₂ }) (record { entry = window; exit = window₂ }) packets′ single′ count′ answers′ told′ q .tells) → now session₁ ≡ now session₂
 exports-packets-session κs session room window packets single count answers told packets′ single′ count′ answers′ told′ session₁ room₁ window₁ session₂ room₂ window₂ r q one other = session-of (once one other)

@@ -7,7 +7,7 @@ use mathlib.Core.List.{List, [], _∷_}
 use Prim.Native.Nat.{ℕ}
 use lib.Dec.{eqb}
 use Rattle.desk.specs.declared.command.Command.{Command}
-use Rattle.desk.specs.declared.command.Command.the-variants.{Bad, Open, Take, Keep, Apply, State, Lowest, Order, Best, Inside, Value, Requests, Header, Message, Rewrite, Rehead, Walk}
+use Rattle.desk.specs.declared.command.Command.the-variants.{Bad, Open, Strict, Take, Keep, Apply, State, Unlisted, Rule, Lowest, Order, Best, Inside, Value, Requests, Header, Message, Rewrite, Rehead, Walk}
 use Rattle.text.specs.Hex.{Reads}
 use Rattle.text.specs.declared.hex.Bytes.{Bytes}
 use Rattle.desk.specs.declared.lines.Kind.{Kind}
@@ -56,18 +56,27 @@ twoCommand word =
     (cond (isName word (97 ∷ 112 ∷ 112 ∷ 108 ∷ 121 ∷ [])) Apply
     (oneCommand word)))
 
--- `state`, `lowest`
+-- `open` by a rule, `best`
+unfoldable pub threeCommand : List ℕ → Command
+threeCommand word =
+    (cond (isName word (111 ∷ 112 ∷ 101 ∷ 110 ∷ [])) Strict
+    (namedOf word (98 ∷ 101 ∷ 115 ∷ 116 ∷ []) Best))
+
+-- `state`, `unlisted`, `rule`, `lowest`
 unfoldable pub bareCommand : List ℕ → Command
 bareCommand word =
     (cond (isName word (115 ∷ 116 ∷ 97 ∷ 116 ∷ 101 ∷ [])) State
-    (namedOf word (108 ∷ 111 ∷ 119 ∷ 101 ∷ 115 ∷ 116 ∷ []) Lowest))
+    (cond (isName word (117 ∷ 110 ∷ 108 ∷ 105 ∷ 115 ∷ 116 ∷ 101 ∷ 100 ∷ [])) Unlisted
+    (cond (isName word (114 ∷ 117 ∷ 108 ∷ 101 ∷ [])) Rule
+    (namedOf word (108 ∷ 111 ∷ 119 ∷ 101 ∷ 115 ∷ 116 ∷ []) Lowest))))
 
--- `state` and `lowest` have one word, `best` three, `rewrite` four, `rehead` seven, and every other command two
+-- `state`, `unlisted`, `rule` and `lowest` have one word, `best` and `open` by a rule three, `rewrite` four, `rehead` seven, and every
+-- other command two
 unfoldable pub commandOf : ℕ → List ℕ → Command
 commandOf count word =
     (cond (eqb count 1) (bareCommand word)
     (cond (eqb count 2) (twoCommand word)
-    (cond (eqb count 3) (namedOf word (98 ∷ 101 ∷ 115 ∷ 116 ∷ []) Best)
+    (cond (eqb count 3) (threeCommand word)
     (cond (eqb count 4) (namedOf word (114 ∷ 101 ∷ 119 ∷ 114 ∷ 105 ∷ 116 ∷ 101 ∷ []) Rewrite)
     (cond (eqb count 7) (namedOf word (114 ∷ 101 ∷ 104 ∷ 101 ∷ 97 ∷ 100 ∷ []) Rehead)
     Bad)))))

@@ -1,4 +1,4 @@
-// The commands that ask a session: state, order, best, inside, requests.
+// The commands that ask a session: state, unlisted, rule, lowest, order, best, inside, requests.
 use crate::reads::bad;
 use crate::reads::text_of;
 use book::asking::BestReply;
@@ -7,6 +7,7 @@ use book::asking::OrderReply;
 use book::asking::Reply;
 use book::tables::Faults;
 use book::tables::Inside;
+use book::tables::OpeningRule;
 use book::tables::Order;
 use book_room::room::Room;
 use printing::answers::refusal;
@@ -36,6 +37,21 @@ pub fn state(room: &Room) {
     number(asking::code(room));
     faults(asking::faults(room));
     end();
+}
+
+// How many messages of a type that is not in the table were counted apart.
+pub fn unlisted(room: &Room) {
+    put(b"unlisted");
+    number(asking::unlisted(room));
+    end();
+}
+
+// The rule of the opening for such types.
+pub fn rule(room: &Room) {
+    match asking::rule(room) {
+        OpeningRule::Default => put(b"rule default\n"),
+        OpeningRule::Strict => put(b"rule strict\n"),
+    }
 }
 
 // The lowest number not carried.

@@ -2,15 +2,18 @@
 use text::words;
 ghost use mathlib.Core.Path.{_≡_};
 ghost use Rattle.text.specs.Words.{countOf, wordOf};
-ghost use Rattle.desk.specs.Commands.{bareCommand, bytesCommand, commandOf, isName, namedOf, oneCommand, twoCommand};
+ghost use Rattle.desk.specs.Commands.{bareCommand, bytesCommand, commandOf, isName, namedOf, oneCommand, threeCommand, twoCommand};
 
 pub enum Command {
     Bad,
     Open,
+    Strict,
     Take,
     Keep,
     Apply,
     State,
+    Unlisted,
+    Rule,
     Lowest,
     Order,
     Best,
@@ -31,14 +34,14 @@ pub fn command_of(line: &[u8]) -> Command
     match words::count(line) {
         1 => bare_command(word),
         2 => two_command(word),
-        3 => named(word, b"best", Command::Best),
+        3 => three_command(word),
         4 => named(word, b"rewrite", Command::Rewrite),
         7 => named(word, b"rehead", Command::Rehead),
         _ => Command::Bad,
     }
 }
 
-fn is_name(word: &[u8], name: &[u8]) -> bool
+pub fn is_name(word: &[u8], name: &[u8]) -> bool
     ensures { λ r. ⌜ r ≡ isName (now (word .entry)) (now (name .entry)) ⌝ }
 {
     check::same(word, name)
@@ -60,6 +63,12 @@ fn bare_command(word: &[u8]) -> Command
     if is_name(word, b"state") {
         return Command::State;
     }
+    if is_name(word, b"unlisted") {
+        return Command::Unlisted;
+    }
+    if is_name(word, b"rule") {
+        return Command::Rule;
+    }
     named(word, b"lowest", Command::Lowest)
 }
 
@@ -74,6 +83,16 @@ fn two_command(word: &[u8]) -> Command
         return Command::Apply;
     }
     one_command(word)
+}
+
+// Those of three: an opening by a rule, and the best price of a side.
+fn three_command(word: &[u8]) -> Command
+    ensures { λ r. ⌜ r ≡ threeCommand (now (word .entry)) ⌝ }
+{
+    if is_name(word, b"open") {
+        return Command::Strict;
+    }
+    named(word, b"best", Command::Best)
 }
 
 fn one_command(word: &[u8]) -> Command

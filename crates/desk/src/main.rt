@@ -20,6 +20,8 @@ fn ask(session: Session, room: &Room, window: &Window, command: Command, line: &
 {
     match command {
         Command::State => asks::state(room),
+        Command::Unlisted => asks::unlisted(room),
+        Command::Rule => asks::rule(room),
         Command::Lowest => asks::lowest(room, window),
         Command::Order => asks::order(session, room, line),
         Command::Best => asks::best(session, room, line),
@@ -50,6 +52,7 @@ fn carry_out(session: Session, room: &mut Room, window: &mut Window, line: &[u8]
     let command = command::command_of(line);
     match command {
         Command::Open => moves::open(session, room, window, line),
+        Command::Strict => moves::open_strict(session, room, window, line),
         Command::Take => moves::take(session, room, window, line),
         Command::Keep => moves::keep(session, room, window, line),
         Command::Apply => moves::apply(session, room, window, line),

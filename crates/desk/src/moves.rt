@@ -1,4 +1,5 @@
 // The commands that change the session: open, take, keep, apply.
+use crate::command::is_name;
 use crate::reads;
 use crate::reads::bad;
 use book_room::room::Room;
@@ -28,6 +29,24 @@ pub fn open(session: Session, room: &mut Room, window: &mut Window, line: &[u8])
     }
     put(b"ok\n");
     Session::open(first.value as u32, room, window)
+}
+
+// The one rule that is named is the strict one.
+pub fn open_strict(session: Session, room: &mut Room, window: &mut Window, line: &[u8]) -> Session
+    requires { ⌜ Ruled (held session (now room) (now window)) ⌝ }
+    ensures { λ r. ⌜ Ruled (held r (now (room .exit)) (now (window .exit))) ⌝ }
+{
+    if !is_name(word(line, 2), b"strict") {
+        bad();
+        return session;
+    }
+    let first = parse(word(line, 1), 4294967295);
+    if !first.good {
+        bad();
+        return session;
+    }
+    put(b"ok\n");
+    Session::open_strict(first.value as u32, room, window)
 }
 
 pub fn take(session: Session, room: &mut Room, window: &mut Window, line: &[u8]) -> Session

@@ -5,6 +5,7 @@ use book::asking::InsideReply;
 use book::asking::OrderReply;
 use book::asking::Reply;
 use book::tables::Faults;
+use book::tables::OpeningRule;
 use book_room::room::Room;
 use printing::answers::refusal;
 use printing::words::colon;
@@ -148,6 +149,23 @@ fn inside(answer: InsideReply) {
         let inside = answer.inside;
         number(inside.ask);
         number(inside.bid);
+    }
+}
+
+// The rule for types that are not in the table, how many such messages were counted apart, and whether
+// the book is doubtful.
+pub fn unlisted(room: &Room) {
+    rule(asking::rule(room));
+    told(b", unlisted", asking::unlisted(room));
+    if asking::doubtful(room) {
+        put(b", doubtful");
+    }
+}
+
+fn rule(rule: OpeningRule) {
+    match rule {
+        OpeningRule::Default => put(b": rule default"),
+        OpeningRule::Strict => put(b": rule strict"),
     }
 }
 

@@ -11,16 +11,14 @@ use session::state::Session;
 use session_keeping::keeping;
 use window::places::Window;
 ghost use Rattle.session.specs.Meaning.{held, Ruled};
-ghost use Rattle.session.specs.declared.state.Session.{Session as Table};
 
-// By the first letter: apply, queue, keep.
+// By the first letter: apply, keep.
 pub fn step(session: Session, room: &mut Room, window: &mut Window, n: u32, line: &[u8]) -> Session
     requires { ⌜ Ruled (held session (now room) (now window)) ⌝ }
     ensures { λ r. ⌜ Ruled (held r (now (room .exit)) (now (window .exit))) ⌝ }
 {
     match rows::letter(line, 0) {
         b'a' => applied(session, room, window, line),
-        b'q' => queued(room, window, (n % 1000) as u16),
         _ => kept(session, room, window, n, line),
     }
 }
@@ -38,21 +36,8 @@ fn applied(session: Session, room: &mut Room, window: &mut Window, line: &[u8]) 
     done.session
 }
 
-// A session opened at 1 where so many orders wait from there on, a packet each.
-fn queued(room: &mut Room, window: &mut Window, count: u16) -> Session
-    requires { ⌜ ((session : Table) × Ruled (held session (now room) (now window))) ⌝ }
-    ensures { λ r. ⌜ Ruled (held r (now (room .exit)) (now (window .exit))) ⌝ }
-{
-    let mut session = made::fresh(room, window, 1);
-    let mut k: u16 = 0;
-    while k < count {
-        session = then(session, room, window, k as u32 + 1, made::nth(b'a', k));
-        k += 1;
-    }
-    session
-}
-
-fn then(session: Session, room: &mut Room, window: &mut Window, seq: u32, m: Message) -> Session
+// A message kept, with no answer.
+pub fn then(session: Session, room: &mut Room, window: &mut Window, seq: u32, m: Message) -> Session
     requires { ⌜ Ruled (held session (now room) (now window)) ⌝ }
     ensures { λ r. ⌜ Ruled (held r (now (room .exit)) (now (window .exit))) ⌝ }
 {

@@ -1,4 +1,5 @@
 // Messages and packets made for the cases.
+use crate::keeping;
 use book_room::room::Room;
 use examples_cases::rows::letter;
 use examples_cases::rows::number;
@@ -232,6 +233,27 @@ fn set(buf: &mut [u8], at: usize, byte: u8) {
     }
 }
 
+// Four messages in one packet, of which each is its type and nothing more: what no writer would write.
+pub fn empty(session: Session, room: &mut Room, window: &mut Window, seq: u32, line: &[u8]) -> Taken
+    requires { ⌜ Ruled (held session (now room) (now window)) ⌝ }
+    ensures { λ r. ⌜ Ruled (held (r .session) (now (room .exit)) (now (window .exit))) ⌝ }
+{
+    let mut buf = [0u8; 24];
+    head(&mut buf, 24, seq, 0, 4);
+    bare(&mut buf, 12, number(line, 2));
+    bare(&mut buf, 15, number(line, 3));
+    bare(&mut buf, 18, number(line, 4));
+    bare(&mut buf, 21, number(line, 5));
+    handed(session, room, window, &buf)
+}
+
+fn bare(buf: &mut [u8], at: usize, kind: u64)
+    requires { ⌜ at ≤ 21 ⌝ }
+{
+    set(buf, at + 1, 3);
+    set(buf, at + 2, (kind % 256) as u8);
+}
+
 pub fn beat(session: Session, room: &mut Room, window: &mut Window, seq: u32) -> Taken
     requires { ⌜ Ruled (held session (now room) (now window)) ⌝ }
     ensures { λ r. ⌜ Ruled (held (r .session) (now (room .exit)) (now (window .exit))) ⌝ }
@@ -249,7 +271,15 @@ pub fn fresh(room: &mut Room, window: &mut Window, number: u32) -> Session
     Session::open(number, room, window)
 }
 
-// One with so many orders, or so many insides.
+// The same under the strict rule.
+pub fn strict(room: &mut Room, window: &mut Window, number: u32) -> Session
+    requires { ⌜ ((session : Table) × Ruled (held session (now room) (now window))) ⌝ }
+    ensures { λ r. ⌜ Ruled (held r (now (room .exit)) (now (window .exit))) ⌝ }
+{
+    Session::open_strict(number, room, window)
+}
+
+// One with so many orders, so many that wait, or so many insides, a packet each.
 pub fn filled(room: &mut Room, window: &mut Window, kind: u8, count: u16) -> Session
     requires { ⌜ ((session : Table) × Ruled (held session (now room) (now window))) ⌝ }
     ensures { λ r. ⌜ Ruled (held r (now (room .exit)) (now (window .exit))) ⌝ }
@@ -257,7 +287,7 @@ pub fn filled(room: &mut Room, window: &mut Window, kind: u8, count: u16) -> Ses
     let mut session = fresh(room, window, 1);
     let mut k: u16 = 0;
     while k < count {
-        session = then(session, room, window, k as u32 + 1, nth(kind, k));
+        session = nth(session, room, window, kind, k);
         k += 1;
     }
     session
@@ -271,11 +301,16 @@ fn then(session: Session, room: &mut Room, window: &mut Window, seq: u32, m: Mes
     taken.session
 }
 
-pub fn nth(kind: u8, k: u16) -> Message {
-    if kind == b'a' {
-        add(k, b'B', 300, 1250000)
-    } else {
-        top(k, 1260000, 1250000)
+// By the first letter of a kind: add, keep, top.
+fn nth(session: Session, room: &mut Room, window: &mut Window, kind: u8, k: u16) -> Session
+    requires { ⌜ Ruled (held session (now room) (now window)) ⌝ }
+    ensures { λ r. ⌜ Ruled (held r (now (room .exit)) (now (window .exit))) ⌝ }
+{
+    let seq = k as u32 + 1;
+    match kind {
+        b'a' => then(session, room, window, seq, add(k, b'B', 300, 1250000)),
+        b'k' => keeping::then(session, room, window, seq, add(k, b'B', 300, 1250000)),
+        _ => then(session, room, window, seq, top(k, 1260000, 1250000)),
     }
 }
 

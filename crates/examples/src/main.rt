@@ -5,6 +5,7 @@ mod bursts;
 mod keeping;
 mod made;
 mod sessions;
+mod unlisted;
 mod waiting;
 
 fn main() {
@@ -15,6 +16,7 @@ fn main() {
     examples_cases::writes::run();
     sessions::run();
     waiting::run();
+    unlisted::run();
     bursts::run();
     examples_cases::walks::run();
 }

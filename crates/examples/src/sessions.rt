@@ -89,10 +89,14 @@ fn orders() {
 // A message with one byte of its packet changed: what no writer would write.
 fn broken() {
     lines(
-        b"| open 1\n\
+        b"| strict 1\n\
         | take 1 add 0 B 300 1250000\n\
         | damage 2 14 74 delete 0\n\
-        1: a type that is not listed | report\n\
+        1: a type that is not listed, strictly | report\n\
+        | open 1\n\
+        | take 1 add 0 B 300 1250000\n\
+        | damage 2 14 74 delete 0\n\
+        a type that is not listed, by default | report\n\
         | open 1\n\
         | take 1 add 0 B 300 1250000\n\
         | damage 2 33 88 add 0 B 300 1250000\n\
@@ -222,7 +226,7 @@ pub fn lines(table: &[u8]) {
     }
 }
 
-// By the first letter: open, fill, a packet, what is kept and applied, or a question.
+// By the first letter: open, by default or strictly, fill, a packet, what is kept and applied, or a question.
 fn step(session: Session, room: &mut Room, window: &mut Window, line: &[u8]) -> Session
     requires { ⌜ Ruled (held session (now room) (now window)) ⌝ }
     ensures { λ r. ⌜ Ruled (held r (now (room .exit)) (now (window .exit))) ⌝ }
@@ -230,9 +234,10 @@ fn step(session: Session, room: &mut Room, window: &mut Window, line: &[u8]) -> 
     let n = (number(line, 1) % 4294967296) as u32;
     match rows::letter(line, 0) {
         b'o' => made::fresh(room, window, n),
+        b's' => made::strict(room, window, n),
         b'f' => filled(room, window, n, line),
-        b't' | b'd' | b'b' => took(session, room, window, n, line),
-        b'k' | b'q' | b'a' => keeping::step(session, room, window, n, line),
+        b't' | b'e' | b'd' | b'b' => took(session, room, window, n, line),
+        b'k' | b'a' => keeping::step(session, room, window, n, line),
         _ => {
             question(session, room, window, line);
             session
@@ -262,13 +267,14 @@ fn took(session: Session, room: &mut Room, window: &mut Window, n: u32, line: &[
     taken.session
 }
 
-// By the first letter: take, damage, beat.
+// By the first letter: take, empty, damage, beat.
 fn handed(session: Session, room: &mut Room, window: &mut Window, n: u32, line: &[u8]) -> Taken
     requires { ⌜ Ruled (held session (now room) (now window)) ⌝ }
     ensures { λ r. ⌜ Ruled (held (r .session) (now (room .exit)) (now (window .exit))) ⌝ }
 {
     match rows::letter(line, 0) {
         b't' => sent(session, room, window, n, line),
+        b'e' => made::empty(session, room, window, n, line),
         b'd' => damaged(session, room, window, n, line),
         _ => made::beat(session, room, window, n),
     }
@@ -292,7 +298,7 @@ fn damaged(session: Session, room: &mut Room, window: &mut Window, seq: u32, lin
     made::damaged(session, room, window, seq, told(line, 4), at, byte)
 }
 
-// By the first letter: gap, write the requests, report, lowest, code.
+// By the first letter: gap, write the requests, report, lowest, unlisted, code.
 fn question(session: Session, room: &Room, window: &Window, line: &[u8])
     requires { ⌜ Ruled (held session (now room) (now window)) ⌝ }
 {
@@ -302,6 +308,7 @@ fn question(session: Session, room: &Room, window: &Window, line: &[u8])
         b'w' => requests(room, window, rows::place(line, 1)),
         b'r' => answers::report(session, room),
         b'l' => answers::lowest(room, window),
+        b'u' => answers::unlisted(room),
         _ => answers::code(room),
     }
     end();

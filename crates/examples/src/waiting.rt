@@ -14,7 +14,7 @@ pub fn run() {
 
 fn full() {
     lines(
-        b"| queue 256\n\
+        b"| fill 256 keep\n\
         256 wait from 1 on, apply by 0 | apply 0\n\
         then 257 (one too many) | keep 257 delete 0\n\
         apply by 1 | apply 1\n\

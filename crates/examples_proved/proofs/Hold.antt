@@ -1,8 +1,8 @@
--- P1 to P12, in one table, hold: the checker computes it.
+-- P1 to P12 and the two rules, in one table, hold: the checker computes it.
 -- Assumes nothing.
 use mathlib.Core.Path.{_≡_, refl}
 use mathlib.Core.Bool.{true}
-use Rattle.book.specs.Applying.{applyUnder, effectOf, faulted, insideOf, orderOf, seenOf}
+use Rattle.book.specs.Applying.{applyOf, effectOf, faulted, insideOf, orderOf, seenOf}
 use Rattle.book.specs.Lookup.{keyAt, keyFrom, pairFrom, sameSymbol, symbolAt}
 use Rattle.fields.specs.Id.{digitOf, goodId, idAnswer, isDigit, numberOf, valueOf}
 use Rattle.fields.specs.Rules.{goodSymbol}
@@ -24,5 +24,5 @@ use Rattle.window.specs.Window.{agreeing}
 use Rattle.examples_proved.specs.Examples.{all, examples}
 
 pub hold : all examples ≡ true
-unfolding seenOf effectOf orderOf insideOf without faulted applyUnder keyFrom keyAt sameSymbol pairFrom symbolAt isDigit digitOf goodId valueOf numberOf idAnswer goodSymbol between either firstAll copyOf opened keptAt keep freedAt step applyUpTo takeIf takeOne takeAll layoutOf readOf messageOf fieldsOf brokenOf brokenOr payloadOf flagTests headerTests bodyTests packetTests brokenAt walkFrom framesFrom packetIn differFrom takeTests judge runsFrom requestsOf agreeing gapsOf
+unfolding seenOf effectOf orderOf insideOf without faulted applyOf keyFrom keyAt sameSymbol pairFrom symbolAt isDigit digitOf goodId valueOf numberOf idAnswer goodSymbol between either firstAll copyOf opened keptAt keep freedAt step applyUpTo takeIf takeOne takeAll layoutOf readOf messageOf fieldsOf brokenOf brokenOr payloadOf flagTests headerTests bodyTests packetTests brokenAt walkFrom framesFrom packetIn differFrom takeTests judge runsFrom requestsOf agreeing gapsOf
 hold = refl

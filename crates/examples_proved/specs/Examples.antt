@@ -1,4 +1,4 @@
--- Document 01, "Worked by hand": each example with what is to hold, as a test.
+-- Document 01, "Worked by hand", and the two rules of an opening: each example with what is to hold, as a test.
 -- Assumes nothing.
 use mathlib.Core.Bool.{Bool, true, false, _&&_}
 use mathlib.Core.List.{List, [], _∷_, _++_}
@@ -19,7 +19,9 @@ use Rattle.merge.specs.State.{opened, takeAll}
 use Rattle.window.specs.Runs.{requestsOf}
 use Rattle.book.specs.Applying.{applyOf}
 use Rattle.book.specs.Tables.{Tables, blank, fresh}
-use Rattle.session.specs.Meaning.{Meaning, feed, overnight}
+use Rattle.book.specs.declared.tables.OpeningRule.{OpeningRule}
+use Rattle.book.specs.declared.tables.OpeningRule.the-variants.{Default, Strict}
+use Rattle.session.specs.Meaning.{Meaning, overnight}
 use Rattle.session.specs.Bursts.{refusalOf}
 use Rattle.session.specs.Asking.{gapsOf}
 
@@ -89,7 +91,7 @@ executed shares remaining =
 
 -- the tables after an Add of 300 and an execution
 abbrev pub after : ℕ → ℕ → Tables
-after shares remaining = applyOf (applyOf fresh 1 (add 55 [])) 2 (executed shares remaining)
+after shares remaining = applyOf (applyOf (fresh Default) 1 (add 55 [])) 2 (executed shares remaining)
 
 abbrev pub firstShares : Tables → ℕ
 firstShares t = getD (t .orders) 0 blank .shares
@@ -103,13 +105,20 @@ carrying number message = encode header.layout (numberIs (12 + length message) �
 abbrev pub single : ℕ → List ℕ
 single number = carrying number (0 ∷ 3 ∷ 28 ∷ [])
 
--- the session opened at s, behind these packets
+-- the session opened at s by a rule, behind these packets
+abbrev pub openingBy : OpeningRule → ℕ → List (List ℕ) → Meaning
+openingBy rule s packets = takeAll overnight (opened (fresh rule) s) packets
+
 abbrev pub opening : ℕ → List (List ℕ) → Meaning
-opening s packets = takeAll overnight (opened feed s) packets
+opening s packets = openingBy Default s packets
 
 -- the test that refuses a packet in a session opened at s, 0 where none does
 abbrev pub decision : ℕ → List ℕ → ℕ
-decision s packet = refusalOf (opened feed s) packet
+decision s packet = refusalOf (opened (fresh Default) s) packet
+
+-- the tables behind a packet of one message of type 10, which is not listed, in a session opened at 1 by a rule
+abbrev pub unlisted : OpeningRule → Tables
+unlisted rule = openingBy rule 1 (carrying 1 (0 ∷ 3 ∷ 10 ∷ []) ∷ []) .tables
 
 abbrev pub requests : Meaning → List ℕ
 requests x = requestsOf (gapsOf x)
@@ -143,6 +152,13 @@ examples =
     ∷ eqb (firstShares (after 100 199)) 300
     -- P12
     ∷ same (requests (opening 10 (single 12 ∷ single 13 ∷ []))) (0x00 ∷ 0x0C ∷ 0x72 ∷ 0x00 ∷ 0x00 ∷ 0x00 ∷ 0x0A ∷ 0x00 ∷ 0x00 ∷ 0x00 ∷ 0x02 ∷ 0x59 ∷ [])
+    -- an unlisted type by default: no fault, and counted apart
+    ∷ eqb (unlisted Default .faults .count) 0
+    ∷ eqb (unlisted Default .unlisted .count) 1
+    -- strictly: fault 1, and not counted apart
+    ∷ eqb (unlisted Strict .faults .count) 1
+    ∷ eqb (unlisted Strict .faults .reason) 1
+    ∷ eqb (unlisted Strict .unlisted .count) 0
     ∷ []
 
 -- every one holds

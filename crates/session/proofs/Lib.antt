@@ -1,5 +1,6 @@
 -- Laws of `session`'s definitions.
 pub mod States
+pub mod Through
 pub mod Dispatch
 pub mod Runs
 pub mod Engine

@@ -32,7 +32,7 @@ use Rattle.window_taking.proofs.Accepted.{overnight-judged}
 use Rattle.window_taking.proofs.Passing.{Passes, passes}
 use Rattle.window_taking.proofs.Windows.{Within, neat-for, waiting-for}
 use Rattle.session.specs.Engine.{Good}
-use Rattle.session.specs.Meaning.{AllBytes, CallsBytes, Held, Ruled, Meaning, feed, overnight, rep, tablesIn, view}
+use Rattle.session.specs.Meaning.{AllBytes, CallsBytes, Held, Ruled, Meaning, feed, overnight, rep, ruleIn, tablesIn, view}
 
 module _ {x : Meaning} (g : Good x) where
   pub within : Within (x .waiting) (x .next)
@@ -229,6 +229,11 @@ pub ruled-more : {s : Held} → Ruled s → (ts : List (List ℕ)) → AllBytes 
 ruled-more {s} r ts bytes =
     subst (λ (x : Meaning). Ruled (rep x)) (sym (take-calls overnight (r .number) (view s) ts))
     (ruled-calls r (callsOf overnight (view s) ts) (taken-bytes ts bytes (view s)))
+
+-- the rule that the room tells is that of the tables
+pub rule-held : {h : Held} (x : Meaning) → h ≡ rep x → ruleIn (h .room) ≡ x .tables .unlisted .rule
+unfolding partsOf
+rule-held x e = ap (λ (k : Held). ruleIn (k .room)) e ∙ rule-by (x .tables .unlisted .rule)
 
 pub ruled-open : (rule : OpeningRule) (n : ℕ) → n ≤ 4294967295 → Ruled (rep (opened (fresh rule) n))
 unfolding callAll

@@ -4,14 +4,13 @@ use mathlib.Core.Path.{_≡_, refl, ap, ap₂, _∙_, sym, subst}
 use mathlib.Core.Bool.{Bool, true, false, cond, not, _&&_}
 use mathlib.Core.List.{List, [], _∷_, _++_}
 use mathlib.Core.Option.{Option, none, some}
-use Prim.Native.Nat.{ℕ, zero, suc, _+_, _-_, _≤_, _<_, min}
+use Prim.Native.Nat.{ℕ, zero, suc, _+_, _-_, _≤_, _<_}
 use native.Mathlib.Omega.{arith}
 use borrow.Author.Tests.{eqb-true}
 use lib.Dec.{eqb}
-use Rattle.merge.specs.State.{Call, Packet, applySome, applyUpTo, applying, callAll, callOne, countFrom, keep, keepOne, keeping, keptIf, opened, step}
+use Rattle.merge.specs.State.{Call, callAll, countFrom, opened}
 use Rattle.merge.specs.History.{accepted, applied, firstCopy, running, tablesOf}
 use Rattle.merge.proofs.Demand3.{call-more}
-use Rattle.window_taking.specs.Taking.{judge}
 use Rattle.book.specs.Applying.{applyOf, carried, effectIn, faulted, isApart, isListed, messageIn}
 use Rattle.message.specs.Layouts.{typeIn}
 use Rattle.book.specs.Tables.{Tables, fresh}
@@ -22,41 +21,10 @@ use Rattle.book.specs.declared.deciding.Effect.{Effect}
 use Rattle.book.specs.declared.deciding.Effect.the-variants.{Put, Replace, Remove, Renew, Enter, Record, Unchanged, Fault, CountApart}
 use Rattle.book.proofs.Laws.{apart-grows, rule-stays}
 use Rattle.session.specs.Meaning.{Held, Meaning, feed, overnight, view}
+use Rattle.session.proofs.Through.{by-calls}
 use Rattle.session_keeping.specs.Counting.{apartIf, apartOf}
 use Rattle.session_keeping.proofs.Demand3.{means, session-demand3}
 use Rattle.session_keeping.proofs.Given.{Given}
-
--- ---- what each message leaves of the tables, all calls leave
-
-module _ (P : Tables → Tables → Type 0) (same : (t : Tables) → P t t) (more : (t u v : Tables) → P t u → P u v → P t v)
-    (message : (t : Tables) (number : ℕ) (s : List ℕ) → P t (applyOf t number s)) where
-  by-step : (x : Meaning) (o : Option (List ℕ)) → P (x .tables) (step feed x o .tables)
-  unfolding step
-  by-step x none = same (x .tables)
-  by-step x (some m) = message (x .tables) (x .next) m
-
-  by-steps : (c : ℕ) (x : Meaning) → P (x .tables) (applyUpTo feed c x .tables)
-  unfolding applyUpTo
-  by-steps zero x = same (x .tables)
-  by-steps (suc c) x =
-      let y = step feed x (x .waiting (x .next)) in
-      more (x .tables) (y .tables) (applyUpTo feed c y .tables) (by-step x (x .waiting (x .next))) (by-steps c y)
-
-  by-call : (x : Meaning) (c : Call (List ℕ)) → P (x .tables) (callOne overnight x c .tables)
-  unfolding callOne keepOne keptIf keep applySome
-  by-call x (applying count) = by-steps (min count 256) x
-  by-call x (keeping p) = go (judge x p)
-    where
-      go : (o : Option (Packet (List ℕ))) → P (x .tables) (keptIf x o .tables)
-      go none = same (x .tables)
-      go (some q) = same (x .tables)
-
-  by-calls : (cs : List (Call (List ℕ))) (x : Meaning) → P (x .tables) (callAll overnight x cs .tables)
-  unfolding callAll
-  by-calls [] x = same (x .tables)
-  by-calls (c ∷ cs) x =
-      let y = callOne overnight x c in
-      more (x .tables) (y .tables) (callAll overnight y cs .tables) (by-call x c) (by-calls cs y)
 
 -- ---- the record of faults
 

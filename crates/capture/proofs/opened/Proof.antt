@@ -1,7 +1,8 @@
--- `capture::opened` keeps the session's rule: what is lent has its size, whichever session it was lent to.
+-- `capture::opened` keeps the session's rule, and that it is a strict one: what is lent has its size, whichever session it was lent to.
 -- Assumes nothing.
 mod Points
 use Rattle.session.proofs.Answers.{sized}
+use Rattle.capture.proofs.Strict.{opened-strictly}
 use borrow.Author.Needs.{needs}
 use Rattle.capture.proofs.opened.Proof.Points as to
 use Rattle.capture.proofs.opened.Statement.{statement}
@@ -17,5 +18,5 @@ opened-spec =
     (λ c. search needs)
     (λ c. search needs)
     (λ c κs. search needs)
-    (λ c κs. sized (to.entry-from-open-arg2 c .pre))
-    (λ c. search needs))
+    (λ c κs. sized (to.entry-from-open-strict-arg2 c .pre .rule))
+    (λ c. opened-strictly _ (c .open-strict .ensures .0) (c .open-strict .ensures .1)))

@@ -2,5 +2,5 @@
 -- Assumes nothing.
 use Rattle.capture.proofs.opened.Tie as tie
 
-abbrev pub entry-from-open-arg2 : tie.After-open-arg2 → tie.Start
-entry-from-open-arg2 c = c .before .before .before .before .before .before .before .before
+abbrev pub entry-from-open-strict-arg2 : tie.After-open-strict-arg2 → tie.Start
+entry-from-open-strict-arg2 c = c .before .before .before .before .before .before .before .before

@@ -12,7 +12,15 @@ returns c = simp (sym (c .before .is-name .ensures) ∙ c .if1 .taken)
 
 returns-2 : tie.Need-returns-2
 unfolding bareCommand
-returns-2 c = simp (c .named .ensures, sym (c .before .before .before .is-name .ensures) ∙ c .before .before .if1 .left)
+returns-2 c = simp (sym (c .before .is-name2 .ensures) ∙ c .if2 .taken, sym (c .before .before .before .before .is-name .ensures) ∙ c .before .before .before .if1 .left)
+
+returns-3 : tie.Need-returns-3
+unfolding bareCommand
+returns-3 c = simp (sym (c .before .is-name3 .ensures) ∙ c .if3 .taken, sym (c .before .before .before .before .is-name2 .ensures) ∙ c .before .before .before .if2 .left, sym (c .before .before .before .before .before .before .before .is-name .ensures) ∙ c .before .before .before .before .before .before .if1 .left)
+
+returns-4 : tie.Need-returns-4
+unfolding bareCommand
+returns-4 c = simp (c .named .ensures, sym (c .before .before .before .is-name3 .ensures) ∙ c .before .before .if3 .left, sym (c .before .before .before .before .before .before .is-name2 .ensures) ∙ c .before .before .before .before .before .if2 .left, sym (c .before .before .before .before .before .before .before .before .before .is-name .ensures) ∙ c .before .before .before .before .before .before .before .before .if1 .left)
 
 pub bare-command-spec : {M : Type 1} → statement M
 bare-command-spec =
@@ -23,4 +31,10 @@ bare-command-spec =
     returns
     (λ c. search needs)
     (λ c κs. search needs)
-    returns-2)
+    returns-2
+    (λ c. search needs)
+    (λ c κs. search needs)
+    returns-3
+    (λ c. search needs)
+    (λ c κs. search needs)
+    returns-4)

@@ -16,15 +16,15 @@ returns-2 c = of-count 2 (c .before .before .count .ensures .is) (c .before .mat
 
 returns-3 : tie.Need-returns-3
 unfolding commandOf
-returns-3 c = of-count 3 (c .before .before .before .count .ensures .is) (c .before .before .match .keys3) (c .before .before .before .before .word .ensures) (c .named .ensures)
+returns-3 c = of-count 3 (c .before .before .count .ensures .is) (c .before .match .keys3) (c .before .before .before .word .ensures) (c .three-command .ensures)
 
 returns-4 : tie.Need-returns-4
 unfolding commandOf
-returns-4 c = of-count 4 (c .before .before .before .count .ensures .is) (c .before .before .match .keys4) (c .before .before .before .before .word .ensures) (c .named2 .ensures)
+returns-4 c = of-count 4 (c .before .before .before .count .ensures .is) (c .before .before .match .keys4) (c .before .before .before .before .word .ensures) (c .named .ensures)
 
 returns-5 : tie.Need-returns-5
 unfolding commandOf
-returns-5 c = of-count 7 (c .before .before .before .count .ensures .is) (c .before .before .match .keys5) (c .before .before .before .before .word .ensures) (c .named3 .ensures)
+returns-5 c = of-count 7 (c .before .before .before .count .ensures .is) (c .before .before .match .keys5) (c .before .before .before .before .word .ensures) (c .named2 .ensures)
 
 returns-6 : tie.Need-returns-6
 returns-6 c =
@@ -39,7 +39,6 @@ command-of-spec =
     (λ c κs. search needs)
     (λ c κs. search needs)
     (λ c κs. search needs)
-    (λ c. search needs)
     (λ c κs. search needs)
     (λ c. search needs)
     (λ c κs. search needs)

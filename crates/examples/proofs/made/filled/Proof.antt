@@ -1,4 +1,4 @@
--- `examples::made::filled` keeps the session's rule, which each message taken gives.
+-- `examples::made::filled` keeps the session's rule, which each message taken or kept gives.
 -- Assumes nothing.
 use Prim.Native.Nat.{_-_}
 use Rattle.session.specs.Meaning.{held, Ruled}
@@ -14,9 +14,6 @@ filled-spec =
     (λ room₀ window₀ kind count session₀ k₀ room window session k. count - k)
     (λ c κs. search needs)
     (λ c. search needs)
-    (λ c. search needs)
-    (λ c. search needs)
-    (λ c κs. search needs)
     (λ c κs. search needs)
     (λ c. search needs)
     (λ c. search needs)

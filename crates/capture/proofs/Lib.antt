@@ -1,0 +1,2 @@
+-- Laws of `capture`.
+pub mod Strict
