@@ -79,7 +79,7 @@ names type = leb 22 type && leb type 25
 abbrev pub executes : ℕ → Bool
 executes type = leb 24 type && leb type 25
 
--- a type that is not in the table
+-- whether a type is in the table, and whether a rule is the strict one
 abbrev pub isListed : ℕ → Bool
 isListed type = not (eqb (payloadOf type) 255)
 

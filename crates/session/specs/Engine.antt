@@ -33,7 +33,7 @@ use Rattle.session.specs.declared.advancing.Point.{Point}
 use Rattle.session.specs.declared.settling.Outcome.{Outcome}
 use Rattle.session.specs.declared.touching.Touch.{Touch}
 
--- what the meanings have that an opening and packets give, also between two messages
+-- what the meanings have that an opening, from some tables and at some number, and packets give, also between two messages
 pub record Good (x : Meaning) : Type 0 where
   pub tables : Tables
   pub start : ℕ
