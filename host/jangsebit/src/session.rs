@@ -10,7 +10,7 @@ use std::iter::FusedIterator;
 /// One channel of the feed: two lines and retransmissions merged by number, each message applied once and in order.
 ///
 /// A session is 61,472 bytes in a box, and no call allocates behind its opening. It can be sent to another thread and
-/// copied with all it holds. Two sessions are equal exactly if they hold the same: tables, waiting messages, numbers.
+/// copied with all it holds. Two sessions are equal exactly if they hold the same: tables, waiting messages, numbers, rule.
 ///
 /// ```
 /// use jangsebit::{Refusal, Session};
