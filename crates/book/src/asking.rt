@@ -9,33 +9,33 @@ use crate::tables::{Inside, ORDERS, Order, no_inside, no_order};
 use fields_rules::{good_side, good_symbol};
 
 // Refused: 12 where a rule is broken, 13 where there is none.
-#[derive(Drop)]
+#[derive(Clone, Copy)]
 pub enum Reply {
     Known,
     Refused(u8),
 }
 
 // A price, the sum of shares there and the number of orders.
-#[derive(Drop)]
+#[derive(Clone, Copy)]
 pub struct Level {
     pub price: u64,
     pub shares: u64,
     pub orders: u64,
 }
 
-#[derive(Drop)]
+#[derive(Clone, Copy)]
 pub struct OrderReply {
     pub reply: Reply,
     pub order: Order,
 }
 
-#[derive(Drop)]
+#[derive(Clone, Copy)]
 pub struct InsideReply {
     pub reply: Reply,
     pub inside: Inside,
 }
 
-#[derive(Drop)]
+#[derive(Clone, Copy)]
 pub struct BestReply {
     pub reply: Reply,
     pub level: Level,

@@ -1,5 +1,5 @@
 // What is to be done in the tables.
-#[derive(Drop)]
+#[derive(Clone, Copy)]
 pub enum Effect {
     // The order goes behind the last one.
     Put,

@@ -2,7 +2,7 @@
 ghost use Rattle.std.specs.Prelude.{◌≡◌, ◌≤◌, length};
 ghost use Rattle.book.specs.Lookup.{front_of, back_of, place_found, same_parts, Apart};
 
-#[derive(Drop)]
+#[derive(Clone, Copy)]
 pub enum Found {
     At(usize),
     Nothing,
@@ -32,7 +32,7 @@ pub fn back(symbol: [u8; 14]) -> u64
 }
 
 // A symbol's first eight bytes, the next four and the last two. They share no byte, so each is one load.
-#[derive(Drop)]
+#[derive(Clone, Copy)]
 pub struct Parts {
     pub first: u64,
     pub middle: u32,

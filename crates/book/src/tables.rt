@@ -4,7 +4,7 @@ ghost use Rattle.book.specs.Tables.{no_order, no_inside};
 
 // A live order. The fields stand so that no padding comes between them.
 #[repr(C)]
-#[derive(Drop)]
+#[derive(Clone, Copy)]
 pub struct Order {
     pub id: u64,
     pub price: u64,
@@ -16,7 +16,7 @@ pub struct Order {
 }
 
 // The seven fields of a Top of Book.
-#[derive(Drop)]
+#[derive(Clone, Copy)]
 pub struct Inside {
     pub ask: u64,
     pub bid: u64,
@@ -28,7 +28,7 @@ pub struct Inside {
 }
 
 // The first fault's number and reason, and how many messages faulted.
-#[derive(Drop)]
+#[derive(Clone, Copy)]
 pub struct Faults {
     pub number: u64,
     pub count: u64,
@@ -37,7 +37,7 @@ pub struct Faults {
 
 // The rule that an opening chooses for types that are not in the table: by default such a message is applied without
 // effect and counted apart, under the strict rule it is a fault.
-#[derive(Drop)]
+#[derive(Clone, Copy)]
 pub enum OpeningRule {
     Default,
     Strict,

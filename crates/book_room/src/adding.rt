@@ -13,7 +13,7 @@ use book::lookup::Found;
 use book_deciding::reading::key_at;
 
 // Where in the session's table the order goes, and its id's value.
-#[derive(Drop)]
+#[derive(Clone, Copy)]
 pub enum Put {
     At(usize, u64),
     Nothing,

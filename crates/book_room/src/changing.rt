@@ -15,7 +15,7 @@ use book::lookup::Found;
 use book_deciding::reading::key_at;
 
 // The value of the id that a message names, and where that order is live.
-#[derive(Drop)]
+#[derive(Clone, Copy)]
 pub struct Name {
     pub key: u64,
     pub order: Found,
@@ -23,7 +23,7 @@ pub struct Name {
 
 // What is to be done in the session's table: the order at a place has these shares and this price; the
 // last one takes its place; or nothing.
-#[derive(Drop)]
+#[derive(Clone, Copy)]
 pub enum Act {
     Replace(usize, u32, u64),
     Remove(usize, usize),

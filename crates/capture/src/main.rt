@@ -14,7 +14,7 @@ use text::{input, output};
 use window::places::Window;
 
 // The session behind the records taken, how far they went, and whether a record has no mark.
-#[derive(Drop)]
+#[derive(Clone, Copy)]
 struct Replayed {
     session: Session,
     at: usize,

@@ -5,7 +5,7 @@ ghost use Rattle.desk.specs.Commands.{bare_command, bytes_command, command_of, i
 
 use text::words;
 
-#[derive(Drop)]
+#[derive(Clone, Copy)]
 pub enum Command {
     Bad,
     Open,

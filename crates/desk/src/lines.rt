@@ -8,7 +8,7 @@ use text::input;
 // The longest line, its line feed not counted.
 const MOST: usize = 8192;
 
-#[derive(Drop)]
+#[derive(Clone, Copy)]
 pub enum Kind {
     Whole,
     Long,
@@ -16,7 +16,7 @@ pub enum Kind {
 }
 
 // A line lies between start and stop. Behind it the buffer holds what stands between from and to.
-#[derive(Drop)]
+#[derive(Clone, Copy)]
 pub struct Line {
     pub kind: Kind,
     pub start: usize,

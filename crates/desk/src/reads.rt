@@ -15,7 +15,7 @@ pub fn bad() {
 }
 
 // An id or a symbol, where a word is one.
-#[derive(Drop)]
+#[derive(Clone, Copy)]
 pub struct Text {
     pub good: bool,
     pub text: [u8; 14],

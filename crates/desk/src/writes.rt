@@ -55,7 +55,7 @@ fn put_message(message: Message, at: usize, buffer: &mut [u8]) {
 }
 
 // The header's numbers, where each fits its field.
-#[derive(Drop)]
+#[derive(Clone, Copy)]
 struct Fields {
     good: bool,
     header: Header,

@@ -3,7 +3,7 @@ use crate::rows::find;
 use crate::{headers, ids, messages, sweeps, walks, writes};
 
 // What the lines of a table are cases of.
-#[derive(Drop)]
+#[derive(Clone, Copy)]
 pub enum Table {
     Ids,
     Headers,

@@ -6,7 +6,7 @@ ghost use Rattle.exports.specs.Applied.{start_of};
 use book_room::room::{NEXT, Room};
 
 // Before the first message: next, and how many messages are due.
-#[derive(Drop)]
+#[derive(Clone, Copy)]
 pub struct Start {
     pub next: u64,
     pub due: usize,

@@ -93,7 +93,7 @@ fn tell_order(told: &mut [u64; 8], order: Order)
 }
 
 // Where the order of an id is live: the refusal, and the place where it is 0.
-#[derive(Drop)]
+#[derive(Clone, Copy)]
 pub struct OrderPlace {
     pub refusal: u64,
     pub place: usize,

@@ -30,7 +30,7 @@ pub fn open_strict(room: &mut Room, window: &mut Window, number: u32) -> Session
 }
 
 // What a call takes: whether the bytes are one packet, how many packets are due, and whether the answers fit.
-#[derive(Drop)]
+#[derive(Clone, Copy)]
 pub struct Plan {
     pub one: bool,
     pub due: usize,

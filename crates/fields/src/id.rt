@@ -5,7 +5,7 @@ ghost use Rattle.fields.specs.Id.{good_id, id_answer};
 use crate::parts::{NONE, number};
 
 // The value, or 12 where the id breaks its rule.
-#[derive(Drop)]
+#[derive(Clone, Copy)]
 pub enum IdValue {
     Value(u64),
     Refused(u8),

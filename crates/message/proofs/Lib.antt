@@ -1,5 +1,5 @@
 -- Laws of `message`'s definitions, which the proofs of this crate and of those above cite.
 pub mod Cases
-pub mod Reading
+pub mod Readings
 pub mod Kept
 pub mod Tables

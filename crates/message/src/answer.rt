@@ -1,13 +1,13 @@
 // The answer of reading one message; `message_read` gives it.
 use crate::kinds::Message;
 
-#[derive(Drop)]
+#[derive(Clone, Copy)]
 pub enum Verdict {
     Accepted,
     Refused(u8),
 }
 
-#[derive(Drop)]
+#[derive(Clone, Copy)]
 pub struct Reading {
     pub verdict: Verdict,
     pub message: Message,

@@ -1,14 +1,14 @@
 // A message: its texts beside the numbers of its kind. A text that a kind has not is all zero.
 
 // The price of an execution.
-#[derive(Drop)]
+#[derive(Clone, Copy)]
 pub enum Terms {
     Published,
     Own(u64),
 }
 
 // The kinds, with the numbers of their layouts.
-#[derive(Drop)]
+#[derive(Clone, Copy)]
 pub enum Body {
     Security {
         updated: u64,
@@ -79,7 +79,7 @@ pub enum Body {
     Other(u8),
 }
 
-#[derive(Drop)]
+#[derive(Clone, Copy)]
 pub struct Message {
     pub id: [u8; 14],
     pub symbol: [u8; 14],

@@ -2,14 +2,14 @@
 // field behind the other, is a record of its own.
 
 // What 21 to 25 begin with: when, and which order.
-#[derive(Drop)]
+#[derive(Clone, Copy)]
 pub struct Named {
     pub time: u32,
     pub id: [u8; 14],
 }
 
 // What an Order Add offers, and what a Trade exchanged.
-#[derive(Drop)]
+#[derive(Clone, Copy)]
 pub struct Deal {
     pub side: u8,
     pub quantity: u32,
@@ -18,13 +18,13 @@ pub struct Deal {
 }
 
 // One side of a Top of Book.
-#[derive(Drop)]
+#[derive(Clone, Copy)]
 pub struct Quote {
     pub price: u64,
     pub volume: u32,
 }
 
-#[derive(Drop)]
+#[derive(Clone, Copy)]
 pub struct SecurityFields {
     pub symbol: [u8; 14],
     pub updated: u64,
@@ -37,14 +37,14 @@ pub struct SecurityFields {
     pub status: u8,
 }
 
-#[derive(Drop)]
+#[derive(Clone, Copy)]
 pub struct SpinStartFields {
     pub spin: u8,
     pub time: u64,
     pub last: u32,
 }
 
-#[derive(Drop)]
+#[derive(Clone, Copy)]
 pub struct SpinEndFields {
     pub spin: u8,
     pub count: u32,
@@ -52,13 +52,13 @@ pub struct SpinEndFields {
     pub last: u32,
 }
 
-#[derive(Drop)]
+#[derive(Clone, Copy)]
 pub struct TradingSessionFields {
     pub time: u64,
     pub session: u8,
 }
 
-#[derive(Drop)]
+#[derive(Clone, Copy)]
 pub struct AddFields {
     pub named: Named,
     pub deal: Deal,
@@ -67,7 +67,7 @@ pub struct AddFields {
     pub flags: u16,
 }
 
-#[derive(Drop)]
+#[derive(Clone, Copy)]
 pub struct UpdateFields {
     pub named: Named,
     pub quantity: u32,
@@ -75,7 +75,7 @@ pub struct UpdateFields {
     pub flags: u16,
 }
 
-#[derive(Drop)]
+#[derive(Clone, Copy)]
 pub struct ExecutionFields {
     pub named: Named,
     pub executed: u32,
@@ -83,13 +83,13 @@ pub struct ExecutionFields {
     pub execution: u64,
 }
 
-#[derive(Drop)]
+#[derive(Clone, Copy)]
 pub struct PricedFields {
     pub execution: ExecutionFields,
     pub price: u64,
 }
 
-#[derive(Drop)]
+#[derive(Clone, Copy)]
 pub struct TopFields {
     pub time: u32,
     pub symbol: [u8; 14],
@@ -98,7 +98,7 @@ pub struct TopFields {
     pub unsolicited: u8,
 }
 
-#[derive(Drop)]
+#[derive(Clone, Copy)]
 pub struct TradeFields {
     pub time: u32,
     pub deal: Deal,

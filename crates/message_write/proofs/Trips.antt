@@ -22,7 +22,7 @@ use Rattle.wire.specs.declared.write.Written.TheVariants.{Count}
 use Rattle.message_write.proofs.Back.{message_back, row_back, fields_proper}
 use Rattle.message.proofs.Cases.{room}
 use Rattle.message_write.proofs.Opened.{Opened, written_opened}
-use Rattle.message.proofs.Reading.{good, Taken, taken as read_taken}
+use Rattle.message.proofs.Readings.{good, Taken, taken as read_taken}
 use Rattle.message_write.proofs.Writing.{accepts, counted, taken}
 
 -- a header's two values fit

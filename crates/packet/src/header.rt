@@ -12,7 +12,7 @@ pub const BARE: u16 = HEADER as u16;
 
 pub const FULL: u16 = LONGEST as u16;
 
-#[derive(Drop)]
+#[derive(Clone, Copy)]
 pub struct Header {
     pub size: u16,
     pub seq: u32,
@@ -21,14 +21,14 @@ pub struct Header {
     pub milli: u32,
 }
 
-#[derive(Drop)]
+#[derive(Clone, Copy)]
 pub enum HeaderAnswer {
     Fields(Header),
     Refused(u8),
 }
 
 // Which test decides, 0 where none applies, and the byte offset that it rests on.
-#[derive(Drop)]
+#[derive(Clone, Copy)]
 pub struct Judged {
     pub test: u8,
     pub offset: usize,

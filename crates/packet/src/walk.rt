@@ -1,5 +1,5 @@
 // Where the messages of a packet are at fault, if they are; `packet_judge` walks them.
-#[derive(Drop)]
+#[derive(Clone, Copy)]
 pub enum Walked {
     Whole,
     Broken(usize),

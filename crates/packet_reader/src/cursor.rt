@@ -5,7 +5,7 @@ ghost use Rattle.packet_reader.specs.Cursors.{behind_of, frame_at, framed, lent,
 use crate::judge::judge;
 
 // Where the next message starts, how many are left, and which of 1 to 7 refused the packet, 0 where none did.
-#[derive(Drop)]
+#[derive(Clone, Copy)]
 pub struct Cursor {
     pub at: usize,
     pub left: u8,
@@ -13,7 +13,7 @@ pub struct Cursor {
 }
 
 // A message: where it starts, and how many bytes it has, 0 where there is none.
-#[derive(Drop)]
+#[derive(Clone, Copy)]
 pub struct Frame {
     pub start: usize,
     pub size: usize,

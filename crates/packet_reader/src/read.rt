@@ -6,14 +6,14 @@ use crate::cursor;
 use crate::cursor::Cursor;
 
 // The lent packet and the cursor in it. `open` makes one; a reader made otherwise has its answers too.
-#[derive(Drop)]
+#[derive(Clone, Copy)]
 pub struct Reader<'a> {
     pub packet: &'a [u8],
     pub cursor: Cursor,
 }
 
 // The message handed out, empty where none is left, and the reader behind it.
-#[derive(Drop)]
+#[derive(Clone, Copy)]
 pub struct Handed<'a> {
     pub message: &'a [u8],
     pub rest: Reader<'a>,

@@ -15,7 +15,7 @@ use window_taking::burst::Turn;
 
 // Where a run is. While a message touches an order: the order's place and its name, where the message
 // lies and its size.
-#[derive(Drop)]
+#[derive(Clone, Copy)]
 pub struct Point {
     pub touches: bool,
     pub place: usize,
@@ -28,7 +28,7 @@ pub struct Point {
 }
 
 // How many packets a run took, and where the bytes behind them begin.
-#[derive(Drop)]
+#[derive(Clone, Copy)]
 pub struct Ended {
     pub taken: usize,
     pub at: usize,

@@ -10,34 +10,34 @@ use book_room::room::{NEXT, Room};
 use window::places::{NUMBERS, Window};
 use wire::least;
 
-#[derive(Drop)]
+#[derive(Clone, Copy)]
 pub enum Answer {
     // How many messages were applied.
     Applied(u64),
     Refused(u8),
 }
 
-#[derive(Drop)]
+#[derive(Clone, Copy)]
 pub struct Taken {
     pub session: Session,
     pub answer: Answer,
 }
 
-#[derive(Drop)]
+#[derive(Clone, Copy)]
 pub enum Count {
     // How many packets were taken.
     Packets(usize),
     Refused(u8),
 }
 
-#[derive(Drop)]
+#[derive(Clone, Copy)]
 pub struct AppliedSome {
     pub session: Session,
     // How many messages were applied.
     pub count: u64,
 }
 
-#[derive(Drop)]
+#[derive(Clone, Copy)]
 pub struct TakenAll {
     pub session: Session,
     pub count: Count,

@@ -14,7 +14,7 @@ use book_room::room::Room;
 use window::places::Window;
 
 // Where a run ends: how many packets it took, and where the bytes behind them begin.
-#[derive(Drop)]
+#[derive(Clone, Copy)]
 pub struct Ran {
     pub session: Session,
     pub taken: usize,

@@ -10,7 +10,7 @@ use book_room::room::Room;
 use window::places::PLACE;
 
 // What is to be done at the place: the last order moves there, or this record is put there.
-#[derive(Drop)]
+#[derive(Clone, Copy)]
 pub struct Outcome {
     pub removes: bool,
     pub last: usize,

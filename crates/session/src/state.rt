@@ -16,7 +16,7 @@ use window::places::Window;
 // the faults, the rule, the look-ups, the insides) and the window of messages that wait for their turn. A host holds
 // the three together and lends the same room and window with each call.
 #[repr(C)]
-#[derive(Drop)]
+#[derive(Clone, Copy)]
 pub struct Session {
     pub orders: [Order; Session::ORDERS],
 }

@@ -11,7 +11,7 @@ use book_room::room::Room;
 use book_room::telling::tell;
 
 // Whether it touches an order, the order's place, and its id's value.
-#[derive(Drop)]
+#[derive(Clone, Copy)]
 pub struct Touch {
     pub touches: bool,
     pub place: usize,

@@ -14,14 +14,14 @@ use window::places::Window;
 use window_admitting::admit;
 use window_keeping::keep_packets;
 
-#[derive(Drop)]
+#[derive(Clone, Copy)]
 pub enum Kept {
     // How many of its numbers now wait that did not before.
     Fresh(u64),
     Refused(u8),
 }
 
-#[derive(Drop)]
+#[derive(Clone, Copy)]
 pub struct KeptAll {
     pub count: Count,
     // How many bytes they are, with their lengths.

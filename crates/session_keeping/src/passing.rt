@@ -12,7 +12,7 @@ use book_room::room::{NEXT, Room};
 use packet::{HEADER, header};
 use window::places::{NUMBERS, Window, size_at};
 
-#[derive(Drop)]
+#[derive(Clone, Copy)]
 pub enum Passed {
     // It carries next, or a message waits there: nothing is done, and it is for `take`.
     Applies,

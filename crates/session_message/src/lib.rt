@@ -9,7 +9,7 @@ use window::places::{PLACE, Window};
 
 // What is left to apply: how many messages straight from the packet at hand, and where the first of them
 // begins in the lent bytes; where none is left there, how many of those that wait are due.
-#[derive(Drop)]
+#[derive(Clone, Copy)]
 pub struct PacketRest {
     pub left: usize,
     pub from: usize,

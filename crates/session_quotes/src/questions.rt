@@ -18,7 +18,7 @@ pub const REPLY: usize = 4;
 
 // Where the questions are: whether one waits for the orders, which it is and of how many; how many orders are live; the
 // symbol asked for, by its parts, and the side; and the refusal of the call.
-#[derive(Drop)]
+#[derive(Clone, Copy)]
 pub struct Quest {
     pub waits: bool,
     pub at: usize,

@@ -18,7 +18,7 @@ use Rattle.message.specs.declared.answer.Verdict.{Verdict}
 use Rattle.message.specs.declared.answer.Verdict.TheVariants.{Accepted, Refused}
 use Rattle.message.specs.declared.kinds.Message.{Message}
 use Rattle.message.proofs.Cases.{by_type, room, unlisted, unopened, Unopened}
-use Rattle.message.proofs.Reading.{taken, Taken}
+use Rattle.message.proofs.Readings.{taken, Taken}
 use Rattle.single.specs.Over.{over, over_from}
 use Rattle.single.specs.Words.{message_numbers, message_refusal, message_told, told_by, total, verdict_refusal, widths_by, widths_of, words_at, words_of, Laid, Width, Widths}
 use Rattle.single.specs.declared.words.Words.{Words}

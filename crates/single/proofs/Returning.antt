@@ -18,7 +18,7 @@ use Rattle.message.specs.Reading.{accepted, read_of}
 use Rattle.message.specs.Row.{fields_of, message_of}
 use Rattle.message.specs.declared.kinds.Message.{Message}
 use Rattle.message.proofs.Cases.{by_type}
-use Rattle.message.proofs.Reading.{taken, Taken}
+use Rattle.message.proofs.Readings.{taken, Taken}
 use Rattle.single.specs.Given.{bytes_from, message_given, row_from, too_wide, wide_from}
 use Rattle.single.specs.Words.{message_numbers, total, widths_by, widths_of, words_at, words_of}
 use Rattle.single.proofs.Giving.{encode-is, row_fits}

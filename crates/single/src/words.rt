@@ -6,7 +6,7 @@ ghost use Rattle.single.specs.Words.{words_of, Width};
 // No message has more of them.
 pub const MOST: usize = 13;
 
-#[derive(Drop)]
+#[derive(Clone, Copy)]
 pub struct Words {
     pub widths: [u8; MOST],
     pub count: usize,

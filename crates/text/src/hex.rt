@@ -7,7 +7,7 @@ ghost use Rattle.text.specs.Output.{Put};
 use crate::output;
 
 // How many bytes a word stood for, 0 where it stands for none.
-#[derive(Drop)]
+#[derive(Clone, Copy)]
 pub struct Bytes {
     pub good: bool,
     pub count: usize,

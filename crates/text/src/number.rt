@@ -6,7 +6,7 @@ ghost use Rattle.text.specs.Output.{PutNumber};
 use crate::output;
 
 // A number that a word stands for, 0 where it stands for none.
-#[derive(Drop)]
+#[derive(Clone, Copy)]
 pub struct Parsed {
     pub good: bool,
     pub value: u64,

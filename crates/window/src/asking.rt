@@ -8,7 +8,7 @@ use crate::missing;
 use crate::places::{NUMBERS, Window};
 use wire::least;
 
-#[derive(Drop)]
+#[derive(Clone, Copy)]
 pub enum Asked {
     Count(usize),
     Refused(u8),

@@ -29,7 +29,7 @@ pub fn first_number(window: &Window, wanted: bool, from: u64, limit: u64) -> u64
 }
 
 // A run of missing numbers, by its start and its count.
-#[derive(Drop)]
+#[derive(Clone, Copy)]
 pub struct Gap {
     pub start: u64,
     pub count: u64,

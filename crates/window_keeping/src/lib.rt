@@ -11,7 +11,7 @@ use window_burst::{done, framed, put_answer, start};
 use window_taking::burst::Turn;
 
 // How many packets there were, where the bytes behind them begin, and end behind them.
-#[derive(Drop)]
+#[derive(Clone, Copy)]
 pub struct KeptBurst {
     pub taken: usize,
     pub at: usize,

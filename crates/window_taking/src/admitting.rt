@@ -2,7 +2,7 @@
 
 // The test that refuses a packet, 0 where none does, end behind it, how many of its messages are
 // applied straight from it, and how many of its numbers now wait that did not before.
-#[derive(Drop)]
+#[derive(Clone, Copy)]
 pub struct Admitted {
     pub refusal: u8,
     pub end: u64,

@@ -4,7 +4,7 @@
 // where the answer at hand goes; and of the packet at hand, next before it, its refusal, end behind it,
 // how many of its messages are applied straight from it and where they begin or, where none is, how many
 // of those that wait are due.
-#[derive(Drop)]
+#[derive(Clone, Copy)]
 pub struct Turn {
     pub begun: bool,
     pub left: usize,
@@ -17,7 +17,7 @@ pub struct Turn {
     pub from: usize,
 }
 
-#[derive(Drop)]
+#[derive(Clone, Copy)]
 pub struct Frame {
     pub start: usize,
     pub size: usize,

@@ -1,7 +1,7 @@
 -- `message_read::read` meets its contract: each way out is the first test that applies.
 -- Assumes nothing.
 use mathlib.Core.Path.{◌∙◌, sym}
-use Rattle.message.proofs.Reading.{few, many, another, shorter, good, broken}
+use Rattle.message.proofs.Readings.{few, many, another, shorter, good, broken}
 use borrow.Author.Rules.{rules}
 use Rattle.message_read.proofs.read.Statement.{statement}
 use Rattle.message_read.proofs.read.Tie as tie
