@@ -4,6 +4,8 @@
 // nothing else. `book_deciding` works that out on small values, from the message's bytes; `book_room` and the session
 // carry it out, with `lookup`. `asking` has the replies to the questions (specs/Asking.antt). The rule
 // of the tables in their places is `Kept` of specs/Rule.antt: an opening gives it, every message keeps it.
+#![tactic(auto)]
+
 pub mod asking;
 pub mod deciding;
 pub mod lookup;

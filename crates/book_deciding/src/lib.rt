@@ -1,5 +1,7 @@
 // Parts: what a message does, decided on small values before anything is written. Each function is told what it looks at, and
 // promises the effect for all that can be seen of the tables and agrees with it.
+#![tactic(auto)]
+
 ghost use Rattle.std.specs.Prelude.{◌≡◌, true, false, ◌&&◌, ◌≤◌, leb, length};
 ghost use Rattle.message.specs.Layouts.{type_in};
 ghost use Rattle.message.specs.Row.{fields_of};

@@ -8,6 +8,8 @@
 //
 // An index and the keys beside it are parts of the room of numbers that a host lends: slices, whose
 // lengths the contracts' rules give.
+#![tactic(auto)]
+
 ghost use Rattle.std.specs.Prelude.{◌≡◌, List, [], ◌∷◌, ◌++◌, ℕ, ◌+◌, ◌<◌, set};
 ghost use Rattle.book_index.specs.Chains.{chain_of, index_by, index_of, Indexed, IsLast};
 ghost use Rattle.book_index.specs.Changes.{without, Open, Leaving, On, Last, Off, Behind};

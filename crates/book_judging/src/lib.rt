@@ -1,4 +1,6 @@
 // Parts: what the field rules and the look-ups come to: the first fault that holds, or the change.
+#![tactic(auto)]
+
 ghost use Rattle.std.specs.Prelude.{◌≡◌, cond, not, ◌&&◌, [], ◌∷◌, ◌-◌, eqb, leb, ltb};
 ghost use Rattle.wire.specs.Choice.{first_of};
 ghost use Rattle.book.specs.Lookup.{is_at, place_found};

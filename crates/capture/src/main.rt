@@ -1,4 +1,6 @@
 // Replays a capture on standard input: a line a packet, then the gaps.
+#![tactic(auto)]
+
 mod lines;
 
 ghost use Rattle.std.specs.Prelude.{length};

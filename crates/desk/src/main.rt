@@ -1,4 +1,6 @@
 // A console over every call of the library: a line in, a line out.
+#![tactic(auto)]
+
 mod asks;
 mod command;
 mod lines;

@@ -1,5 +1,7 @@
 // The published example, document 01's worked examples, and a table of cases, one line each:
 // what is lent, and what the library answers.
+#![tactic(auto)]
+
 mod answers;
 mod bursts;
 mod keeping;

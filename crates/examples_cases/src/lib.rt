@@ -2,6 +2,8 @@
 // what the library answers.
 //
 // `rows` takes a line apart, by what specs/Lines.antt says. All of these are parts, for that program.
+#![tactic(auto)]
+
 pub mod headers;
 pub mod ids;
 pub mod messages;

@@ -1,5 +1,7 @@
 // Exports for C and Rust. Most are over one session that the host holds: the orders, and beside them the room and
 // the window, which it lends with each call. Told numbers go into lists that are lent too.
+#![tactic(auto)]
+
 mod alone;
 mod applying;
 mod asking;

@@ -1,4 +1,6 @@
 // The field rules: each answers true exactly where the field meets its rule (fields/specs/Rules).
+#![tactic(auto)]
+
 ghost use Rattle.std.specs.Prelude.{◌≡◌};
 ghost use Rattle.fields.specs.Tests.{between, either};
 ghost use Rattle.fields.specs.Rules.{good_symbol, good_side, good_trade_side, good_quantity, good_price, good_inside_price, good_unsolicited, good_session};

@@ -1,4 +1,6 @@
 // A first session: opened at 10, a heartbeat that says 12, and the request for what is missing.
+#![tactic(auto)]
+
 use session::packets::Answer;
 use session::state::Session;
 use session::{asking, packets};

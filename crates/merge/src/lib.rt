@@ -3,3 +3,4 @@
 // determine. `specs/Promise.antt`: the rule between the two, and demand 3. `specs/Places.antt`: the waiting window in memory.
 // `proofs/Demand3.antt` proves `demand3` for every channel, every opening number and every list of calls of both kinds.
 // A channel of its own kind, as the overnight one or the reference prices, gives a `Channel` and shows `Judged` of it.
+#![tactic(auto)]

@@ -4,6 +4,8 @@
 // reads one message, `message_write` the one that writes one, both along the same layouts: what is written reads back, and
 // what was read is written back to its own bytes (message_write/proofs/Trips.antt). `message_layouts` reads the fields of a
 // type and `message_rules` tests them, for reading and for the tables.
+#![tactic(auto)]
+
 mod answer;
 mod kinds;
 pub mod layouts;

@@ -1,5 +1,7 @@
 // Parts: the one function a type that reads its fields, in the order of its layout. Each asks that the bytes of the
 // layout are there; the header's 3 bytes stand before them.
+#![tactic(auto)]
+
 ghost use Rattle.std.specs.Prelude.{◌≡◌, ◌+◌, ◌≤◌, length};
 ghost use Rattle.wire.specs.Layout.{decode};
 ghost use Rattle.message.specs.Layouts as layouts;

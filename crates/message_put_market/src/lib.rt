@@ -1,4 +1,6 @@
 // Parts: the fields of an inside and of a trade, put at a place (`message_put` puts those of every kind).
+#![tactic(auto)]
+
 ghost use Rattle.std.specs.Prelude.{[], ◌∷◌, ◌≡◌, ◌+◌, ◌≤◌, length};
 ghost use Rattle.wire.specs.Layout.{number_is, put_row, text_is, width_of};
 ghost use Rattle.message.specs.Layouts as layouts;

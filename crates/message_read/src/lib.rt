@@ -1,5 +1,7 @@
 // Reading one message from exactly its lent bytes: for every byte string, of any length, as document 01 says: 7, then 14,
 // else the fields (message/specs/Reading).
+#![tactic(auto)]
+
 ghost use Rattle.std.specs.Prelude.{◌≡◌, ℕ};
 ghost use Rattle.message.specs.Reading.{read_of, refused};
 

@@ -1,6 +1,8 @@
 // Parts: the field rules of a whole message. Each function answers the offset of the first field that
 // breaks its rule, 0 where none does. Every test is worked out, so the code stays straight. Of an id
 // they take whether it keeps its rule: who has its value knows that already.
+#![tactic(auto)]
+
 ghost use Rattle.std.specs.Prelude.{◌≡◌, [], ◌∷◌, map, ◌+◌, ◌<◌};
 ghost use Rattle.fields.specs.Rules.{good_symbol, good_side, good_trade_side, good_quantity, good_price, good_inside_price, good_unsolicited, good_session};
 ghost use Rattle.message.specs.Row.{price_of, type_of_terms};

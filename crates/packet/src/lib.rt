@@ -4,6 +4,8 @@
 // `read_header`, `write_header` and `packet_judge::judge` answer for every byte string, of any length, as document 01 says. The
 // first test that applies decides, and each keeps the byte offset that it rests on
 // (specs/Header.antt, specs/Judging.antt). The walk steps by MessageSize (specs/Walk.antt).
+#![tactic(auto)]
+
 pub mod header;
 mod heading;
 pub mod walk;

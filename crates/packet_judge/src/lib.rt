@@ -1,5 +1,7 @@
 // Judging a packet by 1 to 8, with no session: the first test that applies decides, and the answer has the byte offset
 // that it rests on (packet/specs/Judging). The walk over its messages is a part.
+#![tactic(auto)]
+
 ghost use Rattle.std.specs.Prelude.{◌≡◌};
 ghost use Rattle.packet.specs.Header.{decided, judged};
 ghost use Rattle.packet.specs.Judging.{body_tests, judge_of};

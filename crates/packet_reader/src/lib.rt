@@ -5,6 +5,8 @@
 // `message_of` and `frame_of` have plain parameters (specs/Reading.antt), for a caller that holds no reader, and so has
 // `plain`, which opens, asks and steps one for such a caller. Every call answers for every byte string, and nothing is
 // written.
+#![tactic(auto)]
+
 pub mod cursor;
 pub mod judge;
 pub mod number;

@@ -3,6 +3,8 @@
 // A record is whole where its mark, its length and all its bytes are there (specs/Records.antt); what
 // is cut short, or has no mark, is none. `marked`, `size_at` and `unmarked` say so of any place in
 // what is held, and `number_of` where a session opens whose first record has this packet.
+#![tactic(auto)]
+
 ghost use Rattle.std.specs.Prelude.{◌≡◌, ◌+◌, ◌≤◌, length};
 ghost use Rattle.records.specs.Records.{marked_at, opening_of, unmarked_at, Sized};
 

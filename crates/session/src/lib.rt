@@ -1,4 +1,5 @@
 // The session: a fresh one for an opening number, taking packets, asking for what was lost, and the questions.
+#![tactic(auto)]
 
 pub mod advancing;
 pub mod asking;

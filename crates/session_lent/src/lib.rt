@@ -1,4 +1,6 @@
 // Parts: the engine over a session that lies where the host holds it. No order is copied but those that a message touches.
+#![tactic(auto)]
+
 ghost use Rattle.std.specs.Prelude.{◌≡◌, List, Bool, ℕ, length, replicate};
 ghost use Rattle.wire.specs.Number.{splice};
 ghost use Rattle.merge.specs.State.{apply_up_to, take_all};

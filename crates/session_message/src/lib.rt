@@ -1,5 +1,7 @@
 // Parts: the message at next, from where it lies. That is the packet at hand, while messages of it are
 // left that are applied straight from it, and otherwise its place in the window, while some that wait are due.
+#![tactic(auto)]
+
 ghost use Rattle.std.specs.Prelude.{◌≡◌, ◌<◌, ◌≤◌, length};
 ghost use Rattle.window.specs.Window.{size_at};
 ghost use Rattle.session_message.specs.AtNext.{due_size, size_in, text_after, window_after, onward_of, message_at, Begins, Goes, Lies};

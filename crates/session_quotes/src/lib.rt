@@ -1,5 +1,7 @@
 // Parts: the best prices of many symbols and sides, over a session that lies where the host holds it. No order is copied but
 // the one that is looked at.
+#![tactic(auto)]
+
 ghost use Rattle.std.specs.Prelude.{◌≡◌, List, ℕ, length};
 ghost use Rattle.book.specs.Asking.{Joins, Room as Small};
 ghost use Rattle.book.specs.Lookup.{Apart};

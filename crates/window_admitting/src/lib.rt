@@ -1,4 +1,6 @@
 // Parts: one packet judged by 1 to 10 and, if none applies, kept, or left to be applied straight from its bytes.
+#![tactic(auto)]
+
 ghost use Rattle.std.specs.Prelude.{◌≡◌, ◌&&◌, eqb};
 ghost use Rattle.packet.specs.Walk.{frames_from};
 ghost use Rattle.window_taking.specs.Taking.{differ_from, is_some};

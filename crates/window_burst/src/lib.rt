@@ -1,4 +1,6 @@
 // Parts: from one packet of a burst to the next.
+#![tactic(auto)]
+
 ghost use Rattle.std.specs.Prelude.{false, true, ◌≡◌, [], ◌∷◌, ◌+◌, ◌-◌, ◌≤◌, min, length};
 ghost use Rattle.wire.specs.Number.{splice};
 ghost use Rattle.window_taking.specs.Keeping.{state_of, window_for, held_by, Known, Neat};

@@ -1,4 +1,6 @@
 // Parts: the packets of a burst kept one after the other, and nothing applied.
+#![tactic(auto)]
+
 ghost use Rattle.std.specs.Prelude.{false, ◌≡◌, ◌+◌, ◌*◌, ◌≤◌, length};
 ghost use Rattle.wire.specs.Number.{splice};
 ghost use Rattle.window_taking.specs.Keeping.{kept_all, kept_by, state_of, window_for, Known, Neat};

@@ -1,0 +1,29 @@
+-- The side, then the symbol.
+-- Assumes nothing.
+use mathlib.Core.Path.{◌≡◌, ◌∙◌, sym}
+use mathlib.Core.Logic.{◌≢◌}
+use mathlib.Core.Bool.{Bool, false, and-false, and-true}
+use mathlib.Core.List.{List}
+use Prim.Native.Nat.{ℕ}
+use borrow.Author.Rules.{rules}
+use borrow.Author.Tests.{eq-eqb, ne_eqb}
+use Rattle.book.specs.Asking.{is_of}
+use Rattle.book.specs.Lookup.{same_symbol}
+use Rattle.book.specs.declared.tables.Order.{Order}
+use Rattle.book.proofs.Symbols.{same_apart}
+use Rattle.book.proofs.asking.belongs.Goals as goal
+
+module _ (o : Order) (symbol : List ℕ) (side : ℕ) where
+  other-side : o.side ≢ side → false ≡ is_of symbol side o
+  unfolding is_of
+  other-side n = simp (ne_eqb _ _ n, and-false)
+
+  this-side : {r : Bool} → o.side ≡ side → r ≡ same_symbol o.symbol symbol → r ≡ is_of symbol side o
+  unfolding is_of
+  this-side e same = simp (eq-eqb _ _ e, and-true) same
+
+pub returns-then-order-side : goal.returns-then-order-side
+returns-then-order-side c symbol p = other-side _ _ _ c.if-order-side.true
+
+pub returns : goal.returns
+returns c symbol p = this-side _ _ _ c.if-order-side.false (c.same.ensures ∙ same_apart _ _ c.parts_of.ensures p)

@@ -1,0 +1,7 @@
+-- No level stands beside a refusal.
+-- Assumes nothing.
+use borrow.Author.Rules.{rules}
+use Rattle.book.proofs.asking.no_level_for.Goals as goal
+
+pub returns : goal.returns
+returns c = cc

@@ -1,0 +1,17 @@
+-- Each turn of the walk stands at a cell of the chain behind the place, and the cells fall.
+-- Assumes nothing.
+use mathlib.Core.Path.{◌≡◌}
+use mathlib.Core.List.{List}
+use Prim.Native.Nat.{ℕ, ◌<◌}
+use native.Mathlib.Omega.{arith}
+use Rattle.book_index.specs.Chains.{chain_of, index_by}
+use Rattle.book_index.proofs.Chained.{size_by}
+use Rattle.book_index.proofs.Walks.{Nearing, near_head, near_most, near_end, near_on}
+use borrow.Author.Rules.{rules}
+use Rattle.book_index.proofs.behind.Given as goal
+
+abbrev pub invariant-loop-key : goal.invariant-loop-key
+invariant-loop-key l = (l.cell < 765) × ((chains : List ℕ) → l.index ≡ index_by chains → Nearing chains (chain_of l.key) l.place l.cell)
+
+abbrev pub decreases-loop-key : goal.decreases-loop-key
+decreases-loop-key l = l.cell

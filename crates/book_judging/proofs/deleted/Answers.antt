@@ -1,0 +1,7 @@
+-- 2 or 5 where it holds, or the change at the place that the look-up found.
+-- Assumes nothing.
+use borrow.Author.Rules.{rules}
+use Rattle.book_judging.proofs.deleted.Goals as goal
+
+pub returns : goal.returns
+returns c = simp (c.if-not-good.false, c.in-At.is)

@@ -1,0 +1,16 @@
+-- `capture::replay` keeps the session's rule and the strict one of its opening, stays within the bytes, and ends: each record has its head.
+-- Assumes nothing.
+use mathlib.Core.Path.{◌≡◌}
+use Prim.Native.Nat.{◌≤◌, ◌-◌}
+use lib.ListN.{length}
+use Rattle.session.specs.Meaning.{held}
+use Rattle.capture.specs.Replays.{Strictly}
+use Rattle.capture.proofs.Strict.{taken_strictly}
+use borrow.Author.Rules.{rules}
+use Rattle.capture.proofs.replay.Goals as goal
+
+pub loop-size-preserved : goal.loop-size-preserved
+loop-size-preserved c =
+    let call = c.take-taken.ensures in
+    let before = c.loop-size.invariant in
+    (taken_strictly _ before.0 call.0 call.1.1, search rules, search rules)

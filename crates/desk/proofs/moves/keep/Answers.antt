@@ -1,0 +1,10 @@
+-- `desk::moves::keep` keeps the session's rule: keeping does so for whatever session is held beside the room and the window.
+-- Assumes nothing.
+use borrow.Author.Rules.{rules}
+use Rattle.desk.proofs.moves.keep.Goals as goal
+
+pub keep-requires : goal.keep-requires
+keep-requires c = (c.args.session, c.requires)
+
+pub returns : goal.returns
+returns c = c.keep.ensures.held.1 c.args.session c.requires

@@ -1,0 +1,11 @@
+-- `cases::sweeps::sweep` is safe: the loop stays within 256.
+-- Assumes nothing.
+use borrow.Author.Rules.{rules}
+use Prim.Native.Nat.{◌≤◌, ◌-◌}
+use Rattle.examples_cases.proofs.sweeps.sweep.Given as goal
+
+abbrev pub invariant-loop-k : goal.invariant-loop-k
+invariant-loop-k l = l.k ≤ 256
+
+abbrev pub decreases-loop-k : goal.decreases-loop-k
+decreases-loop-k l = 256 - l.k

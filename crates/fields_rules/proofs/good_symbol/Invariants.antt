@@ -1,0 +1,20 @@
+-- `good_symbol` answers as its rule does. The loop's invariant: the first byte is no space, and the first k are printable.
+use mathlib.Core.Path.{◌≡◌, refl, sym, ◌∙◌}
+use mathlib.Core.Bool.{true, false, and-false}
+use Prim.Native.Nat.{◌-◌, ◌≤◌, ◌<◌}
+use native.Mathlib.Numerals.{add-one}
+use native.Mathlib.Omega.{arith}
+use lib.Dec.{eqb}
+use lib.ListN.{get_or}
+use borrow.Author.Rules.{rules}
+use borrow.Author.Tests.{eq-eqb, ne_eqb, not-true, not-false}
+use Rattle.fields.specs.Tests.{first_all}
+use Rattle.fields.specs.Rules.{is_printable, good_symbol}
+use Rattle.fields.proofs.Tests.{all_more, all_fail}
+use Rattle.fields_rules.proofs.good_symbol.Given as goal
+
+abbrev pub invariant-loop-k : goal.invariant-loop-k
+invariant-loop-k l = (l.k ≤ 14) × (eqb (get_or l.symbol 0 0) 0x20 ≡ false) × (first_all is_printable l.k l.symbol ≡ true)
+
+abbrev pub decreases-loop-k : goal.decreases-loop-k
+decreases-loop-k l = 14 - l.k

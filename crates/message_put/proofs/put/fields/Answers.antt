@@ -1,0 +1,70 @@
+-- `message_put::put::fields` puts the row of the kind, and each layout has room.
+-- Assumes nothing.
+use Rattle.wire.proofs.Layouts.{none_row}
+use Rattle.message.specs.Layouts.{layout_of}
+use Rattle.message_put.proofs.ByKind.{kind_put, kind_room}
+use borrow.Author.Rules.{rules}
+use Rattle.message_put.proofs.put.fields.Goals as goal
+
+pub of_security-requires : goal.of_security-requires
+of_security-requires c = kind_room _ _ c.in-Security.is c.requires
+
+pub spin_start-requires : goal.spin_start-requires
+spin_start-requires c = kind_room _ _ c.in-SpinStart.is c.requires
+
+pub spin_end-requires : goal.spin_end-requires
+spin_end-requires c = kind_room _ _ c.in-SpinEnd.is c.requires
+
+pub trading_session-requires : goal.trading_session-requires
+trading_session-requires c = kind_room _ _ c.in-TradingSession.is c.requires
+
+pub add-requires : goal.add-requires
+add-requires c = kind_room _ _ c.in-Add.is c.requires
+
+pub update-requires : goal.update-requires
+update-requires c = kind_room _ _ c.in-Update.is c.requires
+
+pub named-requires : goal.named-requires
+named-requires c = kind_room _ _ c.in-Delete.is c.requires
+
+pub of_execution-requires : goal.of_execution-requires
+of_execution-requires c = kind_room _ _ c.in-Execution.is c.requires
+
+pub top-requires : goal.top-requires
+top-requires c = kind_room _ _ c.in-Top.is c.requires
+
+pub trade-requires : goal.trade-requires
+trade-requires c = kind_room _ _ c.in-Trade.is c.requires
+
+pub returns-in-Security : goal.returns-in-Security
+returns-in-Security c = kind_put _ _ _ _ _ c.in-Security.is c.of_security.ensures
+
+pub returns-in-SpinStart : goal.returns-in-SpinStart
+returns-in-SpinStart c = kind_put _ _ _ _ _ c.in-SpinStart.is c.spin_start.ensures
+
+pub returns-in-SpinEnd : goal.returns-in-SpinEnd
+returns-in-SpinEnd c = kind_put _ _ _ _ _ c.in-SpinEnd.is c.spin_end.ensures
+
+pub returns-in-TradingSession : goal.returns-in-TradingSession
+returns-in-TradingSession c = kind_put _ _ _ _ _ c.in-TradingSession.is c.trading_session.ensures
+
+pub returns-in-Add : goal.returns-in-Add
+returns-in-Add c = kind_put _ _ _ _ _ c.in-Add.is c.add.ensures
+
+pub returns-in-Update : goal.returns-in-Update
+returns-in-Update c = kind_put _ _ _ _ _ c.in-Update.is c.update.ensures
+
+pub returns-in-Delete : goal.returns-in-Delete
+returns-in-Delete c = kind_put _ _ _ _ _ c.in-Delete.is c.named.ensures
+
+pub returns-in-Execution : goal.returns-in-Execution
+returns-in-Execution c = kind_put _ _ _ _ _ c.in-Execution.is c.of_execution.ensures
+
+pub returns-in-Top : goal.returns-in-Top
+returns-in-Top c = kind_put _ _ _ _ _ c.in-Top.is c.top.ensures
+
+pub returns-in-Trade : goal.returns-in-Trade
+returns-in-Trade c = kind_put _ _ _ _ _ c.in-Trade.is c.trade.ensures
+
+pub returns-in-Other : goal.returns-in-Other
+returns-in-Other c = kind_put _ _ _ _ _ c.in-Other.is (none_row _ _ _)

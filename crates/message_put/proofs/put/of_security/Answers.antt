@@ -1,0 +1,11 @@
+-- The two halves of a Security are the row put.
+-- Assumes nothing.
+use Rattle.wire.proofs.Layouts.{parts_row}
+use borrow.Author.Rules.{rules}
+use Rattle.message_put.proofs.put.of_security.Goals as goal
+
+pub returns : goal.returns
+returns c =
+    let back = c.before.before in
+    let front = back.before.before.before.before in
+    parts_row _ _ _ _ _ _ (search rules) (search rules) front.security_front.ensures back.security_back.ensures

@@ -1,0 +1,11 @@
+-- The price and the volume of a side, put one behind the other, are the row put.
+-- Assumes nothing.
+use Rattle.wire.proofs.Layouts.{puts_row, then}
+use borrow.Author.Rules.{rules}
+use Rattle.message_put_market.proofs.quote.Goals as goal
+
+pub returns : goal.returns
+returns c =
+    let volume = c.before.before in
+    let price = volume.before.before.before.before in
+    puts_row _ _ _ _ tt (search rules) (then _ _ price.put_u64.ensures volume.put_u32.ensures)

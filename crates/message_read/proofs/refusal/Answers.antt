@@ -1,0 +1,7 @@
+-- `message_read::refusal` answers the number with no message.
+-- Assumes nothing.
+use borrow.Author.Rules.{rules}
+use Rattle.message_read.proofs.refusal.Goals as goal
+
+pub returns : goal.returns
+returns c = cc

@@ -1,0 +1,24 @@
+-- The first broken field of an Order Add.
+-- Assumes nothing.
+use mathlib.Core.Path.{refl}
+use Rattle.message.proofs.Cases.{broken_is}
+use borrow.Author.Rules.{rules}
+use Rattle.message_rules.proofs.add.Goals as goal
+
+pub returns : goal.returns
+returns c = (let sided = c.before in let sided-test = sided.before in let dealt = sided-test.before in let told = dealt.before in let told-test = told.before in broken_is 7 c.broken_or.ensures refl (broken_is 21 sided.broken_or-sided.ensures sided-test.good_side.ensures (broken_is 22 dealt.deal-dealt.ensures refl (broken_is 26 refl refl (broken_is 40 refl refl (broken_is 52 told.broken_or-told.ensures told-test.good_unsolicited.ensures refl))))))
+
+pub good_unsolicited-requires : goal.good_unsolicited-requires
+good_unsolicited-requires c = tt
+
+pub broken_or-told-requires : goal.broken_or-told-requires
+broken_or-told-requires c = tt
+
+pub good_side-requires : goal.good_side-requires
+good_side-requires c = tt
+
+pub broken_or-sided-requires : goal.broken_or-sided-requires
+broken_or-sided-requires c = tt
+
+pub broken_or-requires : goal.broken_or-requires
+broken_or-requires c = tt

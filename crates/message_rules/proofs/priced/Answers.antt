@@ -1,0 +1,23 @@
+-- The first broken field of an Execution with Price.
+-- Assumes nothing.
+use mathlib.Core.Path.{refl}
+use Rattle.message.proofs.Cases.{broken_is}
+use Rattle.message_rules.proofs.priced.Goals as goal
+
+pub returns : goal.returns
+returns c = (let sized = c.before in let sized-test = sized.before in let priced = sized-test.before in let priced-test = priced.before in broken_is 7 c.broken_or.ensures refl (broken_is 21 sized.broken_or-sized.ensures sized-test.good_quantity.ensures (broken_is 37 priced.broken_or-priced.ensures priced-test.good_price.ensures refl)))
+
+pub good_price-requires : goal.good_price-requires
+good_price-requires c = tt
+
+pub broken_or-priced-requires : goal.broken_or-priced-requires
+broken_or-priced-requires c = tt
+
+pub good_quantity-requires : goal.good_quantity-requires
+good_quantity-requires c = tt
+
+pub broken_or-sized-requires : goal.broken_or-sized-requires
+broken_or-sized-requires c = tt
+
+pub broken_or-requires : goal.broken_or-requires
+broken_or-requires c = tt

@@ -1,0 +1,28 @@
+-- `message_write::write` meets its contract: a refusal leaves the buffer, a count has put the header and the fields.
+-- Assumes nothing.
+use mathlib.Core.Path.{◌∙◌, sym}
+use native.Mathlib.Omega.{arith}
+use Rattle.message_write.proofs.Writing.{counted, kept, placed}
+use borrow.Author.Rules.{rules}
+use Rattle.message_write.proofs.place.write.Goals as goal
+
+pub returns-in_default : goal.returns-in_default
+returns-in_default c = (c.judge-answer.ensures, kept _ _ _ (sym c.judge-answer.ensures ∙ c.in_default.is))
+
+pub overflow_cast-size : goal.overflow_cast-size
+overflow_cast-size c = let k = counted _ _ _ _ (sym c.judge-answer.ensures ∙ c.in-Count.is) in omega arith
+
+pub head-requires : goal.head-requires
+head-requires c = let k = counted _ _ _ _ (sym c.judge-answer.ensures ∙ c.in-Count.is) in omega arith
+
+pub overflow_add-at : goal.overflow_add-at
+overflow_add-at c = let k = counted _ _ _ _ (sym c.judge-answer.ensures ∙ c.in-Count.is) in omega arith
+
+pub fields-requires : goal.fields-requires
+fields-requires c = let k = counted _ _ _ _ (sym c.judge-answer.ensures ∙ c.in-Count.is) in omega arith
+
+pub returns : goal.returns
+returns c =
+    let j = c.before.before.before.before.before.before.before.before.before in
+    let e = sym j.judge-answer.ensures ∙ j.in-Count.is in
+    (sym e, placed _ _ _ e j.kind_of-kind.ensures c.head.ensures c.fields.ensures)

@@ -1,0 +1,31 @@
+-- `packet::flagged` meets its contract: each way out is the first of 4, 5 and 6 that applies.
+-- Assumes nothing.
+use mathlib.Core.Path.{◌∙◌}
+use borrow.Author.Tests.{eq-eqb, ne_eqb}
+use Rattle.packet.specs.Header.{flag_tests}
+use borrow.Author.Rules.{rules}
+use Rattle.packet.proofs.header.flagged.Goals as goal
+
+pub returns-then-flag-ne0 : goal.returns-then-flag-ne0
+unfolding flag_tests
+returns-then-flag-ne0 c = c.verdict.ensures ∙ simp (ne_eqb _ _ c.if-flag-ne0.true)
+
+pub returns-then-size-ne-BARE : goal.returns-then-size-ne-BARE
+unfolding flag_tests
+returns-then-size-ne-BARE c = (let at-if3 = c.before in let at-if2 = at-if3.before in let at-if1 = at-if2.before in c.verdict-then-size-ne-BARE.ensures ∙ simp (eq-eqb _ _ at-if1.if-flag-ne0.false, eq-eqb _ _ at-if2.if-flag-eq1.true, ne_eqb _ _ at-if3.if-size-ne-BARE.true))
+
+pub returns-then-messages-ne0 : goal.returns-then-messages-ne0
+unfolding flag_tests
+returns-then-messages-ne0 c = (let at-if4 = c.before in let at-if3 = at-if4.before in let at-if2 = at-if3.before in let at-if1 = at-if2.before in c.verdict-then-messages-ne0.ensures ∙ simp (eq-eqb _ _ at-if1.if-flag-ne0.false, eq-eqb _ _ at-if2.if-flag-eq1.true, eq-eqb _ _ at-if3.if-size-ne-BARE.false, ne_eqb _ _ at-if4.if-messages-ne0.true))
+
+pub returns-then-flag-eq1 : goal.returns-then-flag-eq1
+unfolding flag_tests
+returns-then-flag-eq1 c = (let at-if4 = c.before in let at-if3 = at-if4.before in let at-if2 = at-if3.before in let at-if1 = at-if2.before in c.verdict-then-flag-eq1.ensures ∙ simp (eq-eqb _ _ at-if1.if-flag-ne0.false, eq-eqb _ _ at-if2.if-flag-eq1.true, eq-eqb _ _ at-if3.if-size-ne-BARE.false, eq-eqb _ _ at-if4.if-messages-ne0.false))
+
+pub returns-then-messages-eq0 : goal.returns-then-messages-eq0
+unfolding flag_tests
+returns-then-messages-eq0 c = (let at-if5 = c.before in let at-if2 = at-if5.before in let at-if1 = at-if2.before in c.verdict-then-messages-eq0.ensures ∙ simp (eq-eqb _ _ at-if1.if-flag-ne0.false, ne_eqb _ _ at-if2.if-flag-eq1.false, eq-eqb _ _ at-if5.if-messages-eq0.true))
+
+pub returns : goal.returns
+unfolding flag_tests
+returns c = (let at-if5 = c.before in let at-if2 = at-if5.before in let at-if1 = at-if2.before in c.verdict-2.ensures ∙ simp (eq-eqb _ _ at-if1.if-flag-ne0.false, ne_eqb _ _ at-if2.if-flag-eq1.false, ne_eqb _ _ at-if5.if-messages-eq0.false))

@@ -1,0 +1,25 @@
+-- `records::size_at` meets its contract, an answer a test.
+-- Assumes nothing.
+use Rattle.records.proofs.Heads.{no_head, no_mark, cut_short, whole}
+use borrow.Author.Rules.{rules}
+use Rattle.records.proofs.size_at.Goals as goal
+
+pub returns-then-left-lt-HEAD : goal.returns-then-left-lt-HEAD
+returns-then-left-lt-HEAD c =
+    let a = c.args in
+    record { is = no_head a.held.now a.at c.if-left-lt-HEAD.true; within = search rules }
+
+pub returns-then-not-marked : goal.returns-then-not-marked
+returns-then-not-marked c =
+    let a = c.args in
+    record { is = no_mark a.held.now a.at c.if-left-lt-HEAD.false _ c.marked.ensures c.if-not-marked.true; within = search rules }
+
+pub returns-then-left-size : goal.returns-then-left-size
+returns-then-left-size c =
+    let a = c.args in
+    record { is = cut_short a.held.now a.at c.if-left-lt-HEAD.false _ c.marked.ensures c.if-not-marked.false _ c.u16_at-size.ensures c.if-left-size.true; within = search rules }
+
+pub returns : goal.returns
+returns c =
+    let a = c.args in
+    record { is = whole a.held.now a.at c.if-left-lt-HEAD.false _ c.marked.ensures c.if-not-marked.false _ c.u16_at-size.ensures c.if-left-size.false; within = search rules }

@@ -1,0 +1,17 @@
+-- One run by the window is the run by the meaning.
+-- Assumes nothing.
+use mathlib.Core.Path.{ap, ◌∙◌}
+use Prim.Native.Nat.{ℕ, min}
+use native.Mathlib.Omega.{arith}
+use borrow.Author.Rules.{rules}
+use Rattle.session.proofs.Calls.{gap_same, numbered}
+use Rattle.session.proofs.asking.gap.Goals as goal
+
+pub returns : goal.returns
+returns c = gap_same c.args.room.now c.args.window.now c.args.from (numbered c.requires.1).order c.least-limit.ensures (c.least-first.ensures ∙ ap (λ (k : ℕ). min k c.least-limit.result) c.most.ensures) c.run.ensures
+
+pub overflow_add-next : goal.overflow_add-next
+overflow_add-next c = omega (arith, (numbered c.requires.1).order, (numbered c.requires.1).top)
+
+pub run-requires : goal.run-requires
+run-requires c = omega (arith, c.least-first.ensures)

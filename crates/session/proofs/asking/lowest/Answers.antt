@@ -1,0 +1,15 @@
+-- The first number from next on that is missing.
+-- Assumes nothing.
+use native.Mathlib.Omega.{arith}
+use Rattle.session.proofs.Calls.{lowest_is, numbered}
+use borrow.Author.Rules.{rules}
+use Rattle.session.proofs.asking.lowest.Goals as goal
+
+pub returns : goal.returns
+returns c = lowest_is c.args.room.now c.args.window.now c.first_number.ensures.is
+
+pub overflow_add-next : goal.overflow_add-next
+overflow_add-next c = omega (arith, (numbered c.requires.1).order, (numbered c.requires.1).top)
+
+pub first_number-requires : goal.first_number-requires
+first_number-requires c = omega arith

@@ -1,0 +1,11 @@
+-- The fields of a header, by cases of the answer.
+-- Assumes nothing.
+use Rattle.single.proofs.Cases.{header_by}
+use borrow.Author.Rules.{rules}
+use Rattle.single.proofs.headers.read.Goals as goal
+
+pub returns-in-Fields : goal.returns-in-Fields
+returns-in-Fields c = header_by c.read_header.ensures c.args.told.now c.in-Fields.is
+
+pub returns-in-Refused : goal.returns-in-Refused
+returns-in-Refused c = header_by c.read_header.ensures c.args.told.now c.in-Refused.is

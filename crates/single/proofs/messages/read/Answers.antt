@@ -1,0 +1,14 @@
+-- A message told, by cases of what reading gives.
+-- Assumes nothing.
+use Rattle.single.proofs.Laying.{read_accepted, read_laid, read_refused}
+use borrow.Author.Rules.{rules}
+use Rattle.single.proofs.messages.read.Goals as goal
+
+pub tell-requires : goal.tell-requires
+tell-requires c = read_laid _ c.args.told.now c.read-reading.ensures c.in-Accepted.is
+
+pub returns-in-Accepted : goal.returns-in-Accepted
+returns-in-Accepted c = read_accepted _ c.args.told.now c.read-reading.ensures c.in-Accepted.is c.tell.ensures
+
+pub returns-in-Refused : goal.returns-in-Refused
+returns-in-Refused c = read_refused _ c.args.told.now c.read-reading.ensures c.in-Refused.is

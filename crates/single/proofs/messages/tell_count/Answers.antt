@@ -1,0 +1,11 @@
+-- How many bytes were written, or the refusal, by cases of the answer.
+-- Assumes nothing.
+use Rattle.single.proofs.Cases.{written_by}
+use borrow.Author.Rules.{rules}
+use Rattle.single.proofs.messages.tell_count.Goals as goal
+
+pub returns-in-Count : goal.returns-in-Count
+returns-in-Count c = written_by c.args.told.now c.in-Count.is
+
+pub returns-in-Refused : goal.returns-in-Refused
+returns-in-Refused c = written_by c.args.told.now c.in-Refused.is

@@ -1,0 +1,13 @@
+-- What judging answers, as numbers.
+-- Assumes nothing.
+use mathlib.Core.Path.{ap}
+use mathlib.Core.List.{[], ◌∷◌}
+use Rattle.packet.specs.declared.header.Judged.{Judged}
+use Rattle.single.specs.Over.{over}
+use borrow.Author.Rules.{rules}
+use Rattle.single.proofs.walking.judge.Goals as goal
+
+pub returns : goal.returns
+returns c =
+    let said = c.judge-said.ensures in
+    (ap (λ (x : Judged). x.test) said, ap (λ (x : Judged). over (x.offset ∷ []) c.args.told.now) said)

@@ -1,0 +1,24 @@
+-- A walk, by the judgement and by whether the list is long enough.
+-- Assumes nothing.
+use native.Mathlib.Omega.{arith}
+use Rattle.single.proofs.Taking.{header_there, refused, too_short, walkable, walked}
+use borrow.Author.Rules.{rules}
+use Rattle.single.proofs.walking.walk.Goals as goal
+
+pub returns-then-said-ne0 : goal.returns-then-said-ne0
+returns-then-said-ne0 c = refused _ c.args.places.now c.args.told.now c.opened-said.ensures c.if-said-ne0.true
+
+pub u8_at-messages-requires : goal.u8_at-messages-requires
+u8_at-messages-requires c = omega (arith, header_there c.args.packet.now c.args.places.now c.args.told.now c.opened-said.ensures c.if-said-ne0.false)
+
+pub returns-then-places-messages : goal.returns-then-places-messages
+returns-then-places-messages c = too_short _ c.args.places.now c.args.told.now c.opened-said.ensures c.if-said-ne0.false c.u8_at-messages.ensures (omega (arith, c.if-places-messages.true))
+
+pub put-requires : goal.put-requires
+put-requires c = (
+  walkable _ c.args.places.now c.args.told.now c.opened-said.ensures c.if-said-ne0.false c.u8_at-messages.ensures,
+  omega (arith, c.if-places-messages.false),
+)
+
+pub returns : goal.returns
+returns c = walked _ c.args.places.now c.args.told.now c.opened-said.ensures c.if-said-ne0.false c.u8_at-messages.ensures (omega (arith, c.if-places-messages.false)) c.put.ensures

@@ -1,0 +1,17 @@
+-- `text::hex::fill` meets its contract: the bytes so far, and those of the digits behind them, are the word's.
+-- Assumes nothing.
+use mathlib.Core.Path.{◌≡◌, refl, ◌∙◌, sym}
+use mathlib.Core.List.{◌++◌}
+use Prim.Native.Nat.{ℕ, ◌≤◌, ◌-◌, ◌*◌}
+use native.Mathlib.Omega.{arith}
+use lib.ListN.{length, take, drop, length-set}
+use Rattle.text.specs.Hex.{is_pairs, bytes_of}
+use Rattle.text.proofs.Pairs.{pairs_more, pairs_none, pairs_all, bytes_more, bytes_all}
+use borrow.Author.Rules.{rules}
+use Rattle.text.proofs.hex.fill.Given as goal
+
+abbrev pub invariant-loop-k : goal.invariant-loop-k
+invariant-loop-k l = (l.k ≤ l.count) × (length l.out ≡ length l.initial.out) × (is_pairs (drop (l.k * 2) l.word) ≡ is_pairs l.word) × (take l.k l.out ++ bytes_of (drop (l.k * 2) l.word) ≡ bytes_of l.word)
+
+abbrev pub decreases-loop-k : goal.decreases-loop-k
+decreases-loop-k l = l.count - l.k

@@ -1,0 +1,15 @@
+-- `text::input::shift` meets its contract: a turn moves one byte more.
+-- Assumes nothing.
+use mathlib.Core.Path.{◌≡◌, refl}
+use Prim.Native.Nat.{◌≤◌, ◌-◌}
+use native.Mathlib.Omega.{arith}
+use lib.ListN.{length, length-set}
+use Rattle.text.proofs.Moving.{Moved, moved_more, moved_all, moved_none}
+use borrow.Author.Rules.{rules}
+use Rattle.text.proofs.input.shift.Given as goal
+
+abbrev pub invariant-loop-k : goal.invariant-loop-k
+invariant-loop-k l = (l.k ≤ l.count) × (length l.buf ≡ length l.initial.buf) × Moved l.initial.buf l.from l.k l.buf
+
+abbrev pub decreases-loop-k : goal.decreases-loop-k
+decreases-loop-k l = l.count - l.k

@@ -1,0 +1,10 @@
+-- `text::number::put` meets its contract: the digits are those that `io::decimal` gives.
+-- Assumes nothing.
+use Rattle.text.proofs.Spelling.{put_number_lem}
+use borrow.Author.Rules.{rules}
+use Rattle.text.proofs.number.put.Goals as goal
+
+pub returns : goal.returns
+returns c =
+    let d = c.decimal-count.ensures in
+    put_number_lem _ _ _ _ _ _ _ d.1.0 d.1.1 c.put.ensures

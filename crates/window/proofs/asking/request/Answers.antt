@@ -1,0 +1,8 @@
+-- The five fields of a request, put one behind the other, are the row put.
+-- Assumes nothing.
+use Rattle.wire.proofs.Layouts.{puts_row, then}
+use borrow.Author.Rules.{rules}
+use Rattle.window.proofs.asking.request.Goals as goal
+
+pub returns : goal.returns
+returns c = puts_row _ _ _ _ tt (search rules) (then _ _ (then _ _ (then _ _ (then _ _ c.put_u16.ensures c.put_u8.ensures) c.put_u32.ensures) c.put_u32-2.ensures) c.put_u8-2.ensures)

@@ -1,0 +1,8 @@
+-- A packet behind its length.
+-- Assumes nothing.
+use borrow.Author.Rules.{rules}
+use Rattle.window_taking.proofs.Frames.{framed_is}
+use Rattle.window_burst.proofs.framed.Goals as goal
+
+pub returns : goal.returns
+returns c = framed_is c.args.s.now c.args.at c.u16_at-size.ensures
