@@ -37,7 +37,7 @@ has() { command -v "$1" >/dev/null; }
 
 # ---- the archives: each crate that exports anything to C
 archives=yes
-for name in $(grep -lr '#\[no_mangle\]' crates/*/src | cut -d/ -f2 | sort -u); do
+for name in $(sed -n 's/^\([a-z_]*\)_c staticlib:.*/\1/p' crates.txt); do
     status=0
     tools/archive.sh "$name" >"$work/said" 2>&1 || status=$?
     if [ "$status" = 3 ]; then

@@ -8,7 +8,7 @@
       - what a function answers differs in kind or width;
       - a record differs in a field's name, place, width or count.
 
-Read are crates/exports/src, include/jangsebit.h and host/jangsebit/src/sys.rs; the last is passed over, with a word,
+Read are crates/exports_c/src, include/jangsebit.h and host/jangsebit/src/sys.rs; the last is passed over, with a word,
 where it is not there. A slice `x` counts as the address `x` and the number `x_len`.
 """
 import glob
@@ -166,10 +166,10 @@ def functions(types, text, where):
 def sources():
     types = Types(sorted(glob.glob("crates/*/src/*.rt")))
     found = {}
-    for file in sorted(glob.glob("crates/exports/src/*.rt")):
+    for file in sorted(glob.glob("crates/exports_c/src/*.rt")):
         text = re.sub(r"//.*", "", open(file).read())
         exported = "".join(
-            "fn " + m.group(1) for m in re.finditer(r'#\[no_mangle\]\s*pub extern "C" fn (.*?)(?=#\[no_mangle\]|\Z)', text, re.S))
+            "fn " + m.group(1) for m in re.finditer(r'#\[unsafe\(no_mangle\)\]\s*pub extern "C" fn (.*?)(?=#\[unsafe\(no_mangle\)\]|\Z)', text, re.S))
         found.update(functions(types, exported, file))
     return found
 
@@ -278,7 +278,7 @@ def hold(ours, theirs, where):
 
 exports = sources()
 if not exports:
-    wrong.append("crates/exports/src: no exports found")
+    wrong.append("crates/exports_c/src: no exports found")
 hold(exports, c(), HEADER)
 lists = "sources and header"
 if os.path.exists(SYS):

@@ -111,11 +111,18 @@ def main():
     if "--docs" in args:
         with open(TABLE, encoding="utf-8") as f:
             rows = dict(line.rstrip("\n").split("\t") for line in f)
+        found = collect()[3]
+
+        def one(word):
+            plain = "_".join(snake(part) for part in word.split("-"))
+            known = rows.get(word) or rows.get(plain)
+            return known or (plain if word not in found and plain in found else word)
+
         pages = ["README.md"] + [os.path.join(r, n) for r, _, ns in os.walk("docs") for n in ns if n.endswith(".md")]
         for page in pages:
             with open(page, encoding="utf-8") as f:
                 text = f.read()
-            new = re.sub(r"`[^`\n]+`", lambda m: re.sub(r"[A-Za-z][\w'-]*", lambda w: rows.get(w[0], w[0]), m[0]), text)
+            new = re.sub(r"`[^`\n]+`", lambda m: re.sub(r"[A-Za-z][\w'-]*", lambda w: one(w[0]), m[0]), text)
             if new != text:
                 with open(page, "w", encoding="utf-8") as f:
                     f.write(new)
