@@ -1,5 +1,5 @@
 -- Laws of reading on, four characters at a time.
-use Rattle.std.proofs.Common.{◌≡◌, ℕ, zero, suc, ◌+◌, ◌-◌, ◌*◌, ◌/◌, ◌^◌, ◌<◌, ◌≤◌, Bool, true, false, ◌&&◌, eqb, ◌≢◌, List, sym, refl, ap, ◌∙◌, ap₂, lt_of_lt_of_le, pow-suc, arith, lit<, lit≤, eq-eqb, ne_eqb, eqb-true}
+use Rattle.std.proofs.Common.{◌≡◌, ℕ, suc, ◌+◌, ◌-◌, ◌*◌, ◌/◌, ◌^◌, ◌<◌, ◌≤◌, Bool, true, false, ◌&&◌, eqb, ◌≢◌, List, sym, refl, ap, ◌∙◌, ap₂, lt_of_lt_of_le, pow-suc, arith, lit<, lit≤, eq-eqb, ne_eqb, eqb-true}
 use native.Mathlib.Nat.{pow-le-pow_right}
 use native.Mathlib.Numerals.{unary_clauses}
 use lib.Arith.{digits_lt}

@@ -13,7 +13,7 @@ use Rattle.wire.specs.Choice.{listed_at}
 use Rattle.wire.specs.Layout.{Field, Value}
 use Rattle.fields.specs.Id.{good_id}
 use Rattle.fields.specs.Rules.{good_price, good_quantity}
-use Rattle.message.specs.Layouts.{head, layout_of}
+use Rattle.message.specs.Layouts.{layout_of}
 use Rattle.message.specs.Row.{bare, fields_of, message_of, price_of, type_of_terms}
 use Rattle.message.specs.Rules.{FieldRule, broken_by, broken_of, broken_or, first_broken, keeps, number, placed, rules_of}
 use Rattle.message.specs.Table.{below, payload_of, payloads, payload_table, tabulate, too_short}

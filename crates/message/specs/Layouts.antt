@@ -2,7 +2,7 @@
 -- Assumes nothing.
 use Rattle.std.specs.Prelude.{List, [], ◌∷◌, ℕ}
 use Rattle.wire.specs.Choice.{listed_at}
-use Rattle.wire.specs.Layout.{Field, number, text, decode, number_in, width_of}
+use Rattle.wire.specs.Layout.{Field, number, text, decode, number_in}
 
 -- MessageSize and MessageType: the message header
 abbrev pub head : List Field

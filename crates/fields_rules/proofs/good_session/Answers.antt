@@ -1,6 +1,5 @@
 -- `good_session` answers as its rule does, by the outcome of its first test.
 use mathlib.Core.Path.{◌∙◌}
-use borrow.Author.Rules.{rules}
 use borrow.Author.Tests.{eq-eqb, ne_eqb}
 use Rattle.fields_rules.proofs.good_session.Goals as goal
 

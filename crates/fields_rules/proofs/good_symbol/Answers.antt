@@ -1,13 +1,11 @@
 -- `good_symbol` answers as its rule does. The loop's invariant: the first byte is no space, and the first k are printable.
 use mathlib.Core.Path.{◌≡◌, refl, sym, ◌∙◌}
-use mathlib.Core.Bool.{true, false, and-false}
-use Prim.Native.Nat.{◌-◌, ◌≤◌, ◌<◌}
+use mathlib.Core.Bool.{and-false}
+use Prim.Native.Nat.{◌<◌}
 use native.Mathlib.Numerals.{add-one}
 use native.Mathlib.Omega.{arith}
-use lib.Dec.{eqb}
-use lib.ListN.{get_or}
 use borrow.Author.Rules.{rules}
-use borrow.Author.Tests.{eq-eqb, ne_eqb, not-true, not-false}
+use borrow.Author.Tests.{eq-eqb, ne_eqb}
 use Rattle.fields.specs.Tests.{first_all}
 use Rattle.fields.specs.Rules.{is_printable, good_symbol}
 use Rattle.fields.proofs.Tests.{all_more, all_fail}
@@ -32,7 +30,7 @@ returns-then-not-within c =
     c.loop-k.k
     14
     h
-    (sym c.within.ensures ∙ not-true _ c.if-not-within.true))
+    (sym c.within.ensures ∙ c.if-not-within.true))
 
 pub loop-k-smaller : goal.loop-k-smaller
 loop-k-smaller c = omega arith
@@ -48,7 +46,7 @@ loop-k-preserved c = (
       c.args.symbol
       c.loop-k.k
       c.loop-k.invariant.2
-      (sym c.within.ensures ∙ not-false _ c.if-not-within.false)),
+      (sym c.within.ensures ∙ c.if-not-within.false)),
 )
 
 pub returns : goal.returns

@@ -1,16 +1,11 @@
 -- `good_symbol` answers as its rule does. The loop's invariant: the first byte is no space, and the first k are printable.
-use mathlib.Core.Path.{◌≡◌, refl, sym, ◌∙◌}
-use mathlib.Core.Bool.{true, false, and-false}
-use Prim.Native.Nat.{◌-◌, ◌≤◌, ◌<◌}
-use native.Mathlib.Numerals.{add-one}
-use native.Mathlib.Omega.{arith}
+use mathlib.Core.Path.{◌≡◌}
+use mathlib.Core.Bool.{true, false}
+use Prim.Native.Nat.{◌-◌, ◌≤◌}
 use lib.Dec.{eqb}
 use lib.ListN.{get_or}
-use borrow.Author.Rules.{rules}
-use borrow.Author.Tests.{eq-eqb, ne_eqb, not-true, not-false}
 use Rattle.fields.specs.Tests.{first_all}
-use Rattle.fields.specs.Rules.{is_printable, good_symbol}
-use Rattle.fields.proofs.Tests.{all_more, all_fail}
+use Rattle.fields.specs.Rules.{is_printable}
 use Rattle.fields_rules.proofs.good_symbol.Given as goal
 
 abbrev pub invariant-loop-k : goal.invariant-loop-k

@@ -6,6 +6,4 @@ use Rattle.message_put_market.proofs.quote.Goals as goal
 
 pub returns : goal.returns
 returns c =
-    let volume = c.before.before in
-    let price = volume.before.before.before.before in
-    puts_row _ _ _ _ tt (search rules) (then _ _ price.put_u64.ensures volume.put_u32.ensures)
+    puts_row _ _ _ _ tt (search rules) (then _ _ c.put_u64.ensures c.put_u32.ensures)

@@ -12,14 +12,8 @@ use Rattle.message_put_market.proofs.top.Goals as goal
 
 pub returns : goal.returns
 returns c =
-    let unsolicited = c.before.before in
-    let bid = unsolicited.before.before.before.before in
-    let ask = bid.before.before.before.before in
-    let symbol = ask.before.before.before.before in
-    let time = symbol.before.before.before.before.before in
-    let start = time.before.before.before in
-    let long : length start.args.symbol ≡ 14 = start.well-formed.1.1.1.0.1.0.1 in
-    let room : start.args.at ≤ length start.args.buf.now = omega (arith, start.requires) in
-    let front = puts_row (number 4 ∷ text 14 ∷ []) (number_is _ ∷ text_is _ ∷ []) _ _ (long, tt) room (then _ _ time.put_u32.ensures symbol.put_text.ensures) in
-    let sides = parts_row _ _ _ _ _ _ (long, tt) room (parts_row _ _ _ _ _ _ (long, tt) room front ask.quote.ensures) bid.quote-2.ensures in
-    row_then _ (number 1 ∷ []) _ (number_is _ ∷ []) _ _ (long, tt) tt room sides unsolicited.put_u8.ensures
+    let long : length c.args.symbol ≡ 14 = search rules in
+    let room : c.args.at ≤ length c.args.buf.now = omega (arith, c.requires) in
+    let front = puts_row (number 4 ∷ text 14 ∷ []) (number_is _ ∷ text_is _ ∷ []) _ _ (long, tt) room (then _ _ c.put_u32.ensures c.put_text.ensures) in
+    let sides = parts_row _ _ _ _ _ _ (long, tt) room (parts_row _ _ _ _ _ _ (long, tt) room front c.quote.ensures) c.quote-2.ensures in
+    row_then _ (number 1 ∷ []) _ (number_is _ ∷ []) _ _ (long, tt) tt room sides c.put_u8.ensures

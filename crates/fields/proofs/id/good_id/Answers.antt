@@ -1,5 +1,4 @@
 -- `good_id` goes by the case of the id's answer.
-use Rattle.std.proofs.Common.{rules}
 use Rattle.fields.proofs.Ids.{accepted_good}
 use Rattle.fields.proofs.id.good_id.Goals as goal
 

@@ -1,5 +1,4 @@
 -- `value` takes the id's number apart by whether an id can have it.
-use Rattle.std.proofs.Common.{rules}
 use Rattle.fields.proofs.Ids.{answer_none, answer_some}
 use Rattle.fields.proofs.id.value.Goals as goal
 

@@ -15,4 +15,4 @@ pub returns : goal.returns
 unfolding digits_of
 returns c =
     wrapped c.args.text _ c.wrapping_sub_u32.result
-    (omega (arith, and_le_r c.args.text 0x4040_4040)) (search rules) c.wrapping_sub_u32.ensures
+    (omega (arith, and_le_r c.args.text 0x4040_4040)) (search rules) c.wrapping_sub_u32.ensures.value

@@ -1,5 +1,5 @@
 -- `four` joins the digits by pairs, and the pairs; neither runs over into the other.
-use Rattle.std.proofs.Common.{arith, rules}
+use Rattle.std.proofs.Common.{arith}
 use lib.Bits.{and_le_r}
 use Rattle.fields.proofs.Four.{pairs_are}
 use Rattle.fields.proofs.parts.four.Goals as goal

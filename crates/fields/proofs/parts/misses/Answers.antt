@@ -9,6 +9,5 @@ overflow_mul-text c = omega (arith, and_le_r c.args.text 0x7f7f_7f7f)
 
 pub returns : goal.returns
 returns c =
-    let large = c.before.before.before in
-    misses_from (search rules) large.requires large.wrapping_add_u32.ensures large.tops-large.ensures
-    large.wrapping_add_u32-2.ensures c.tops-tens.ensures c.tops-letters.ensures c.tops.ensures
+    misses_from (search rules) c.requires c.wrapping_add_u32.ensures.value c.tops-large.ensures
+    c.wrapping_add_u32-2.ensures.value c.tops-tens.ensures c.tops-letters.ensures c.tops.ensures

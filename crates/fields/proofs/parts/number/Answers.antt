@@ -1,5 +1,4 @@
 -- `number` begins with no character read.
-use Rattle.std.proofs.Common.{rules}
 use Rattle.fields.proofs.Begun.{begun_none}
 use Rattle.fields.proofs.parts.number.Goals as goal
 

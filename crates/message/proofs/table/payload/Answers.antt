@@ -1,7 +1,6 @@
 -- `message::payload` answers by what the table has, and behind it by what no type there is.
 -- Assumes nothing.
 use Rattle.message.proofs.Cases.{needed, unlisted-behind}
-use borrow.Author.Rules.{rules}
 use Rattle.message.proofs.table.payload.Goals as goal
 
 pub returns-then-at-ge-TYPES : goal.returns-then-at-ge-TYPES

@@ -1,7 +1,6 @@
 -- `message::shorter` answers by the two tests.
 -- Assumes nothing.
 use borrow.Author.Tests.{eq-eqb, ne_eqb}
-use borrow.Author.Rules.{rules}
 use Rattle.message.proofs.table.shorter.Goals as goal
 
 pub returns-then-needed-eq-UNLISTED : goal.returns-then-needed-eq-UNLISTED

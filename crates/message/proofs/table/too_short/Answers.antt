@@ -2,7 +2,6 @@
 -- Assumes nothing.
 use mathlib.Core.Path.{◌∙◌, ap}
 use Rattle.message.specs.Table.{below}
-use borrow.Author.Rules.{rules}
 use Rattle.message.proofs.table.too_short.Goals as goal
 
 pub returns : goal.returns
