@@ -123,7 +123,7 @@ module _ {Msg : Type 0} where
   first_told (p ∷ h) k = first_by (copy_told p k) (first_told h k)
 
   -- A packet more, behind the others.
-  pub carried_more : {h : List (Packet Msg)} (l : List (Packet Msg)) {k : ℕ} → Carried k h → Carried k (h ++ l)
+  pub carried_more : {k : ℕ} {h : List (Packet Msg)} (l : List (Packet Msg)) → Carried k h → Carried k (h ++ l)
   carried_more l (here c) = here c
   carried_more l (later c) = later (carried_more l c)
 

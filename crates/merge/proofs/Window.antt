@@ -26,7 +26,7 @@ module _ {Msg : Type 0} where
   end_start s [] = omega arith
   end_start s (p ∷ h) = omega (arith, end_start s h)
 
-  pub end_carried : (s : ℕ) {h : List (Packet Msg)} {k : ℕ} → Carried k h → k < largest_end s h
+  pub end_carried : (s : ℕ) {k : ℕ} {h : List (Packet Msg)} → Carried k h → k < largest_end s h
   unfolding largest_end
   end_carried s (here c) = omega (arith, c.high)
   end_carried s (later c) = omega (arith, end_carried s c)

@@ -55,7 +55,8 @@ module _ (w : List ℕ) (start : ℕ) (s : List ℕ) (at size : ℕ) where
     agrees h =
         let e : start + k + 1 ≡ start + (k + 1) = omega arith in
         let f : at + k + 1 ≡ at + (k + 1) = omega arith in
-        rw (one, eq-eqb (get_or w (start + k) 0) (get_or s (at + k) 0) h, rest w (start + k) (size - (k + 1)), rest s (at + k) (size - (k + 1)), e, f)
+        rw (one, eq-eqb (get_or w (start + k) 0) (get_or s (at + k) 0) h, rest w (start + k) (size - (k + 1)), rest s (at + k) (size - (k + 1)))
+        (ap₂ (λ (a b : ℕ). suc (agreeing (part w a (size - (k + 1))) (part s b (size - (k + 1))))) e f)
 
 -- the part of a packet that is lent is the message
 pub lent : (s : List ℕ) (at size : ℕ) → at + size ≤ length s → take (at + size - at) (drop at s) ≡ part s at size

@@ -1,9 +1,8 @@
 -- What stands at a place, byte by byte.
 -- Assumes nothing.
 use mathlib.Core.Path.{sym, ◌∙◌}
-use Prim.Native.Nat.{◌-◌}
 use Rattle.session_message.proofs.Choices.{text-packet, text_window}
-use Rattle.wire.proofs.Copying.{Copied, copied_all, copied_more, copied_none}
+use Rattle.wire.proofs.Copying.{copied_all, copied_more, copied_none}
 use borrow.Author.Rules.{rules}
 use Rattle.session_message.proofs.fetch.Goals as goal
 

@@ -13,7 +13,7 @@ pub u16_at-size-requires : goal.u16_at-size-requires
 u16_at-size-requires c = seek_room c.loop-left.invariant c.loop-left-test.true refl
 
 pub differs_at-requires : goal.differs_at-requires
-differs_at-requires c = (c.loop-left.invariant.neat, (seek_framed c.loop-left.invariant c.loop-left-test.true c.u16_at-size.ensures, seek_near c.loop-left.invariant c.loop-left-test.true c.u16_at-size.ensures))
+differs_at-requires c = record { neat = c.loop-left.invariant.neat; framed = seek_framed c.loop-left.invariant c.loop-left-test.true c.u16_at-size.ensures; k_bound = seek_near c.loop-left.invariant c.loop-left-test.true c.u16_at-size.ensures }
 
 pub returns-then-differs_at : goal.returns-then-differs_at
 returns-then-differs_at c = seek_here c.loop-left.invariant c.loop-left-test.true c.u16_at-size.ensures c.differs_at.ensures c.if-differs_at.true

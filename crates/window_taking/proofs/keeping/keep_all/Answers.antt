@@ -13,7 +13,7 @@ pub u16_at-size-requires : goal.u16_at-size-requires
 u16_at-size-requires c = room c.loop-left.invariant c.loop-left-test.true refl
 
 pub keep_one-fresh-requires : goal.keep_one-fresh-requires
-keep_one-fresh-requires c = (c.loop-left.invariant.neat, (framed c.loop-left.invariant c.loop-left-test.true c.u16_at-size.ensures, near c.loop-left.invariant c.loop-left-test.true c.u16_at-size.ensures))
+keep_one-fresh-requires c = record { neat = c.loop-left.invariant.neat; framed = framed c.loop-left.invariant c.loop-left-test.true c.u16_at-size.ensures; k_bound = near c.loop-left.invariant c.loop-left-test.true c.u16_at-size.ensures }
 
 pub overflow_add-fresh : goal.overflow_add-fresh
 overflow_add-fresh c = omega (arith, c.loop-left.invariant.few, one_small c.loop-left.invariant c.loop-left-test.true c.u16_at-size.ensures c.keep_one-fresh.ensures.fresh, near c.loop-left.invariant c.loop-left-test.true c.u16_at-size.ensures, c.loop-left.invariant.neat.top)
@@ -28,4 +28,4 @@ pub loop-left-preserved : goal.loop-left-preserved
 loop-left-preserved c = going_next c.loop-left.invariant c.loop-left-test.true c.u16_at-size.ensures c.keep_one-fresh.ensures.fresh c.keep_one-fresh.ensures.kept
 
 pub returns : goal.returns
-returns c = (count_end c.loop-left.invariant c.loop-left-test.false, going_end c.loop-left.invariant c.loop-left-test.false)
+returns c = record { fresh = count_end c.loop-left.invariant c.loop-left-test.false; kept = going_end c.loop-left.invariant c.loop-left-test.false }
