@@ -1,13 +1,8 @@
 -- Each turn of the walk stands at a cell of the chain behind the place, and the cells fall.
 -- Assumes nothing.
-use mathlib.Core.Path.{◌≡◌}
-use mathlib.Core.List.{List}
-use Prim.Native.Nat.{ℕ, ◌<◌}
 use native.Mathlib.Omega.{arith}
-use Rattle.book_index.specs.Chains.{chain_of, index_by}
 use Rattle.book_index.proofs.Chained.{size_by}
-use Rattle.book_index.proofs.Walks.{Nearing, near_head, near_most, near_end, near_on}
-use borrow.Author.Rules.{rules}
+use Rattle.book_index.proofs.Walks.{near_head, near_most, near_end, near_on}
 use Rattle.book_index.proofs.behind.Goals as goal
 
 pub loop-key-init : goal.loop-key-init

@@ -3,11 +3,8 @@
 use mathlib.Core.Path.{◌≡◌}
 use mathlib.Core.List.{List}
 use Prim.Native.Nat.{ℕ, ◌<◌}
-use native.Mathlib.Omega.{arith}
 use Rattle.book_index.specs.Chains.{chain_of, index_by}
-use Rattle.book_index.proofs.Chained.{size_by}
-use Rattle.book_index.proofs.Walks.{Nearing, near_head, near_most, near_end, near_on}
-use borrow.Author.Rules.{rules}
+use Rattle.book_index.proofs.Walks.{Nearing}
 use Rattle.book_index.proofs.behind.Given as goal
 
 abbrev pub invariant-loop-key : goal.invariant-loop-key

@@ -1,10 +1,7 @@
 -- Each turn of the walk stands at a cell of the key's chain, with the key at no place from it on.
 -- Assumes nothing.
-use native.Mathlib.Omega.{arith}
 use lib.ListN.{get_or, take}
-use Rattle.book_index.proofs.Laws.{size_of}
-use Rattle.book_index.proofs.Walks.{Seeking, seek_key, is_last, seek_head, seek_none, seek_falls, seek_live, seek_found, seek_on}
-use borrow.Author.Rules.{rules}
+use Rattle.book_index.proofs.Walks.{Seeking}
 use Rattle.book_index.proofs.find.Given as goal
 
 abbrev pub invariant-loop-live : goal.invariant-loop-live

@@ -1,12 +1,9 @@
 -- Each turn of the walk stands at a cell of the first number's chain, with the two numbers at no place from it on.
 -- Assumes nothing.
 use native.Mathlib.Omega.{arith}
-use lib.ListN.{take}
-use Rattle.book_index.specs.Pairs.{both_at}
 use Rattle.book_index.proofs.Laws.{size_of}
-use Rattle.book_index.proofs.Walks.{Seeking, seek_head, seek_none, seek_falls, seek_live, seek_found, seek_on}
+use Rattle.book_index.proofs.Walks.{seek_head, seek_none, seek_falls, seek_live, seek_found, seek_on}
 use Rattle.book_index.proofs.Pairs.{both_here, both_are, seek_pair, is_pair}
-use borrow.Author.Rules.{rules}
 use Rattle.book_index.proofs.pair.Goals as goal
 
 pub loop-held-init : goal.loop-held-init

@@ -7,7 +7,7 @@ use mathlib.Core.List.{List}
 use Prim.Native.Nat.{ℕ, ◌≤◌}
 use Prim.{tt}
 use native.Mathlib.Omega.{arith}
-use borrow.Author.Tests.{eq-eqb, ne_eqb, not-true, not-false}
+use borrow.Author.Tests.{eq-eqb, ne_eqb}
 use borrow.Author.Rules.{rules}
 use Rattle.book.specs.Asking.{alone, better, is_of, joined, together}
 use Rattle.book.specs.declared.asking.Level.{Level}
@@ -37,23 +37,20 @@ module _ (symbol : List ℕ) (side : ℕ) (o : Order) (level : Level) where
       unfolding joined
       behind b e = simp (h, ne_eqb _ _ n, b, ne_eqb _ _ e)
 
-most-of : (c : goal.Start) → c.args.order.shares ≤ 4294967295
-most-of c = omega arith
-
 pub returns-then-not-belongs : goal.returns-then-not-belongs
-returns-then-not-belongs c symbol p = record { same = other _ _ _ _ (sym (c.belongs.ensures symbol p) ∙ not-true _ c.if-not-belongs.true); most = most-of c.before.before }
+returns-then-not-belongs c symbol p = record { same = other _ _ _ _ (sym (c.belongs.ensures symbol p) ∙ c.if-not-belongs.true); most = omega arith }
 
 pub returns-then-level-eq0 : goal.returns-then-level-eq0
-returns-then-level-eq0 c symbol p = record { same = first _ _ _ _ (sym (c.belongs.ensures symbol p) ∙ not-false _ c.if-not-belongs.false) c.if-level-eq0.true; most = most-of c.before.before.before.before.before }
+returns-then-level-eq0 c symbol p = record { same = first _ _ _ _ (sym (c.belongs.ensures symbol p) ∙ c.if-not-belongs.false) c.if-level-eq0.true; most = omega arith }
 
 pub returns-then-better : goal.returns-then-better
-returns-then-better c symbol p = record { same = ahead _ _ _ _ (sym (c.belongs.ensures symbol p) ∙ not-false _ c.if-not-belongs.false) c.if-level-eq0.false (sym c.better.ensures ∙ c.if-better.true); most = most-of c.before.before.before.before.before.before.before }
+returns-then-better c symbol p = record { same = ahead _ _ _ _ (sym (c.belongs.ensures symbol p) ∙ c.if-not-belongs.false) c.if-level-eq0.false (sym c.better.ensures ∙ c.if-better.true); most = omega arith }
 
 pub returns-then-order-level : goal.returns-then-order-level
-returns-then-order-level c symbol p = record { same = even _ _ _ _ (sym (c.belongs.ensures symbol p) ∙ not-false _ c.if-not-belongs.false) c.if-level-eq0.false (sym c.better.ensures ∙ c.if-better.false) c.if-order-level.true; most = most-of c.before.before.before.before.before.before.before.before.before.before.before.before.before }
+returns-then-order-level c symbol p = record { same = even _ _ _ _ (sym (c.belongs.ensures symbol p) ∙ c.if-not-belongs.false) c.if-level-eq0.false (sym c.better.ensures ∙ c.if-better.false) c.if-order-level.true; most = omega arith }
 
 pub returns : goal.returns
-returns c symbol p = record { same = behind _ _ _ _ (sym (c.belongs.ensures symbol p) ∙ not-false _ c.if-not-belongs.false) c.if-level-eq0.false (sym c.better.ensures ∙ c.if-better.false) c.if-order-level.false; most = most-of c.before.before.before.before.before.before.before.before.before.before }
+returns c symbol p = record { same = behind _ _ _ _ (sym (c.belongs.ensures symbol p) ∙ c.if-not-belongs.false) c.if-level-eq0.false (sym c.better.ensures ∙ c.if-better.false) c.if-order-level.false; most = omega arith }
 
 pub belongs-requires : goal.belongs-requires
 belongs-requires c = tt

@@ -4,7 +4,7 @@ use mathlib.Core.Path.{◌≡◌, ◌∙◌}
 use mathlib.Core.Logic.{◌≢◌}
 use mathlib.Core.Bool.{Bool, true, false}
 use borrow.Author.Rules.{rules}
-use borrow.Author.Tests.{eq-eqb, ne_eqb, not-true, not-false}
+use borrow.Author.Tests.{eq-eqb, ne_eqb}
 use Rattle.book.specs.Asking.{no_level_for, reply_with}
 use Rattle.book.specs.declared.asking.BestReply.{BestReply}
 use Rattle.book.specs.declared.asking.Level.{Level}
@@ -26,10 +26,10 @@ module _ {good : Bool} (level : Level) where
     known e = simp (g, ne_eqb _ _ e)
 
 pub returns-then-not-good : goal.returns-then-not-good
-returns-then-not-good c = c.no_level_for.ensures ∙ bad _ (not-true _ c.if-not-good.true)
+returns-then-not-good c = c.no_level_for.ensures ∙ bad _ c.if-not-good.true
 
 pub returns-then-level-eq0 : goal.returns-then-level-eq0
-returns-then-level-eq0 c = c.no_level_for-then-level-eq0.ensures ∙ none _ (not-false _ c.if-not-good.false) c.if-level-eq0.true
+returns-then-level-eq0 c = c.no_level_for-then-level-eq0.ensures ∙ none _ c.if-not-good.false c.if-level-eq0.true
 
 pub returns : goal.returns
-returns c = known _ (not-false _ c.if-not-good.false) c.if-level-eq0.false
+returns c = known _ c.if-not-good.false c.if-level-eq0.false
