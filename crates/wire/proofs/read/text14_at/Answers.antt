@@ -1,9 +1,8 @@
 -- Fourteen bytes, one after the other.
 -- Assumes nothing.
-use Prim.Native.Nat.{ℕ, ◌-◌}
+use Prim.Native.Nat.{ℕ}
 use lib.ListN.{length-replicate}
-use Rattle.wire.proofs.Copying.{Copied, copied_all, copied_more, copied_none}
-use borrow.Author.Rules.{rules}
+use Rattle.wire.proofs.Copying.{copied_all, copied_more, copied_none}
 use Rattle.wire.proofs.read.text14_at.Goals as goal
 
 pub loop-k-preserved : goal.loop-k-preserved

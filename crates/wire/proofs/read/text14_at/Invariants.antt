@@ -1,9 +1,7 @@
 -- Fourteen bytes, one after the other.
 -- Assumes nothing.
-use Prim.Native.Nat.{ℕ, ◌-◌}
-use lib.ListN.{length-replicate}
-use Rattle.wire.proofs.Copying.{Copied, copied_all, copied_more, copied_none}
-use borrow.Author.Rules.{rules}
+use Prim.Native.Nat.{◌-◌}
+use Rattle.wire.proofs.Copying.{Copied}
 use Rattle.wire.proofs.read.text14_at.Given as goal
 
 abbrev pub invariant-loop-k : goal.invariant-loop-k

@@ -1,9 +1,7 @@
 -- `wire::put_text` meets its contract: the first k bytes of the text are pasted, and a turn pastes one more.
 -- Assumes nothing.
-use mathlib.Core.Path.{◌≡◌}
-use Prim.Native.Nat.{◌≤◌, ◌-◌}
-use lib.ListN.{length, length-set}
-use lib.Seq.{paste, paste-zero}
+use lib.ListN.{length-set}
+use lib.Seq.{paste-zero}
 use Rattle.wire.proofs.Splice.{pasted_more, pasted_all}
 use borrow.Author.Rules.{rules}
 use Rattle.wire.proofs.write.put_text.Goals as goal

@@ -4,7 +4,6 @@ use native.Mathlib.Omega.{arith}
 use lib.ListN.{length-set}
 use Rattle.wire.proofs.Splice.{stored_splice}
 use Rattle.wire.specs.Number.{be}
-use borrow.Author.Rules.{rules}
 use Rattle.wire.proofs.write.put_u16.Goals as goal
 
 pub returns : goal.returns

@@ -1,6 +1,5 @@
 -- `wire::put_u64` meets its contract: its two halves, one behind the other, are the number.
 -- Assumes nothing.
-use borrow.Author.Rules.{rules}
 use Rattle.wire.proofs.Halves.{halves}
 use Rattle.wire.proofs.write.put_u64.Goals as goal
 

@@ -3,7 +3,6 @@
 use mathlib.Core.List.{[], ◌∷◌}
 use native.Mathlib.Nat.{mod-eq_of_lt}
 use Rattle.wire.proofs.Splice.{stored_splice}
-use borrow.Author.Rules.{rules}
 use Rattle.wire.proofs.write.put_u8.Goals as goal
 
 pub returns : goal.returns
