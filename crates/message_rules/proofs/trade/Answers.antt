@@ -4,7 +4,7 @@ use Rattle.message.proofs.Cases.{broken_is}
 use Rattle.message_rules.proofs.trade.Goals as goal
 
 pub returns : goal.returns
-returns c = (broken_is 7 c.broken_or.ensures c.good_trade_side.ensures c.deal-dealt.ensures)
+returns c = broken_is 7 c.broken_or.ensures c.good_trade_side.ensures c.deal-dealt.ensures
 
 pub good_trade_side-requires : goal.good_trade_side-requires
 good_trade_side-requires c = tt
