@@ -1,16 +1,15 @@
 -- Tests one after the other: the first list that has one that applies decides.
 -- Assumes nothing.
-use mathlib.Core.Path.{◌≡◌, refl, ap, ◌∙◌, sym, subst}
+use mathlib.Core.Path.{◌≡◌, refl, ap, ◌∙◌, sym}
 use mathlib.Core.Bool.{Bool, true, false, cond, not, ◌&&◌, true≢false}
 use mathlib.Core.List.{List, [], ◌∷◌, ◌++◌}
-use Prim.Native.Nat.{ℕ, zero, suc, ◌+◌, ◌-◌, ◌%◌, ◌≤◌, ◌<◌}
+use Prim.Native.Nat.{ℕ, ◌+◌, ◌%◌, ◌≤◌, ◌<◌}
 use native.Mathlib.Omega.{arith}
-use borrow.Author.Tests.{lt-ltb, le-ltb, eq-eqb, ne_eqb, eqb-true}
+use borrow.Author.Tests.{lt-ltb, le-ltb, eq-eqb, ne_eqb}
 use lib.Dec.{eqb}
-use lib.ListN.{length}
 use Rattle.wire.specs.Choice.{first_of}
 use Rattle.packet.specs.Header.{Test, decided, flag_tests, heartbeat, header_in, header_tests, judged}
-use Rattle.packet.specs.Judging.{body_tests, is_broken, fault_of, last_of, packet_tests, judge_of, unless_heartbeat}
+use Rattle.packet.specs.Judging.{body_tests, last_of, packet_tests, judge_of, unless_heartbeat}
 use Rattle.packet.specs.Walk.{walk_from}
 use Rattle.packet.specs.declared.header.Header.{Header}
 use Rattle.packet.specs.declared.header.Judged.{Judged}

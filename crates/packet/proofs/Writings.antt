@@ -1,19 +1,18 @@
 -- Writing a header: which test decides, what stays, and the two round trips.
 -- Assumes nothing.
 use mathlib.Core.Path.{◌≡◌, refl, ap, ◌∙◌, sym, subst}
-use mathlib.Core.Bool.{Bool, true, false, not}
-use mathlib.Core.List.{List, [], ◌∷◌, ◌++◌}
+use mathlib.Core.Bool.{Bool, true, false}
+use mathlib.Core.List.{List, []}
 use Prim.Native.Nat.{ℕ, ◌+◌, ◌≤◌, ◌<◌}
 use native.Mathlib.Omega.{arith}
 use borrow.Author.Tests.{lt-ltb, le-ltb, eq-eqb, ne_eqb, ltb-false, eqb-true, not-false}
-use lib.Dec.{eqb, ltb}
+use lib.Dec.{eqb}
 use lib.ListN.{length, drop}
-use Rattle.wire.specs.Layout.{Fits, encode, put_row}
-use Rattle.wire.specs.Number.{Bytes, part, splice}
+use Rattle.wire.specs.Layout.{Fits, put_row}
+use Rattle.wire.specs.Number.{Bytes, splice}
 use Rattle.wire.proofs.Choice.{passed}
 use Rattle.wire.proofs.Layouts.{decode-encode, encode-decode}
 use Rattle.wire.proofs.Place.{length-splice, splice-part}
-use Rattle.wire.specs.declared.write.Written.{Written}
 use Rattle.wire.specs.declared.write.Written.TheVariants.{Count, Refused}
 use Rattle.packet.specs.Header.{answered, decided, flags_of, header_from, header_in, header_of, header_tests, judged, layout}
 use Rattle.packet.specs.Writing.{answer_of, buffer_after, header_bytes, row_of, tests}

@@ -1,6 +1,6 @@
 -- Document 01, "Taking a packet": tests 1 to 8, which ask nothing of a session.
 -- Assumes nothing.
-use Rattle.std.specs.Prelude.{Bool, true, false, not, ◌&&◌, List, [], ◌∷◌, ◌++◌, ℕ, ◌+◌, ◌-◌, ltb}
+use Rattle.std.specs.Prelude.{Bool, true, false, List, [], ◌∷◌, ◌++◌, ℕ, ◌+◌, ◌-◌, ltb}
 use Rattle.packet.specs.Header.{Test, decided, heartbeat, header_in, header_tests, judged}
 use Rattle.packet.specs.Walk.{walk_from}
 use Rattle.packet.specs.declared.header.Judged.{Judged}

@@ -1,9 +1,7 @@
 -- Document 01, test 7: the messages of a packet, one behind the other from byte 12 on.
 -- Assumes nothing.
 use Rattle.std.specs.Prelude.{Bool, cond, ◌||◌, List, [], ◌∷◌, ℕ, zero, suc, ◌+◌, ltb, length}
-use Rattle.std.proofs.Math.Option.{Option, none, some}
 use Rattle.wire.specs.Layout.{decode, number_in}
-use Rattle.wire.specs.Number.{part}
 use Rattle.message.specs.Layouts.{head}
 use Rattle.message.specs.Table.{too_short}
 use Rattle.packet.specs.declared.walk.Walked.{Walked}

@@ -4,7 +4,7 @@ use Rattle.wire.proofs.Layouts.{within}
 use Rattle.message_layouts.proofs.add.Goals as goal
 
 pub returns : goal.returns
-returns c = (let unsolicited = c.before in let firm = unsolicited.before in let deal = firm.before in let named = deal.before in λ i. record { named = named.named.ensures i; deal = deal.deal.ensures i; firm = firm.text4_at.ensures i; unsolicited = unsolicited.u8_at.ensures i; flags = c.u16_at.ensures i })
+returns c = λ i. record { named = c.named.ensures i; deal = c.deal.ensures i; firm = c.text4_at.ensures i; unsolicited = c.u8_at.ensures i; flags = c.u16_at.ensures i }
 
 pub named-requires : goal.named-requires
 named-requires c = within tt c.requires

@@ -4,7 +4,7 @@ use Rattle.wire.proofs.Layouts.{within}
 use Rattle.message_layouts.proofs.execution.Goals as goal
 
 pub returns : goal.returns
-returns c = (let remaining = c.before in let executed = remaining.before in let named = executed.before in λ i. record { named = named.named.ensures i; executed = executed.u32_at.ensures i; remaining = remaining.u32_at-2.ensures i; execution = c.u64_at.ensures i })
+returns c = λ i. record { named = c.named.ensures i; executed = c.u32_at.ensures i; remaining = c.u32_at-2.ensures i; execution = c.u64_at.ensures i }
 
 pub named-requires : goal.named-requires
 named-requires c = within tt c.requires

@@ -4,7 +4,7 @@ use Rattle.wire.proofs.Layouts.{within}
 use Rattle.message_layouts.proofs.named.Goals as goal
 
 pub returns : goal.returns
-returns c = (let time = c.before in λ i. record { time = time.u32_at.ensures i; id = c.text14_at.ensures i })
+returns c = λ i. record { time = c.u32_at.ensures i; id = c.text14_at.ensures i }
 
 pub u32_at-requires : goal.u32_at-requires
 u32_at-requires c = within tt c.requires

@@ -4,7 +4,7 @@ use Rattle.wire.proofs.Layouts.{within}
 use Rattle.message_layouts.proofs.priced.Goals as goal
 
 pub returns : goal.returns
-returns c = (let execution = c.before in λ i. record { execution = execution.execution.ensures i; price = c.u64_at.ensures i })
+returns c = λ i. record { execution = c.execution.ensures i; price = c.u64_at.ensures i }
 
 pub execution-requires : goal.execution-requires
 execution-requires c = within tt c.requires

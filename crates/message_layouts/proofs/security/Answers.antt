@@ -4,7 +4,7 @@ use Rattle.wire.proofs.Layouts.{within}
 use Rattle.message_layouts.proofs.security.Goals as goal
 
 pub returns : goal.returns
-returns c = (let reporting = c.before in let tier = reporting.before in let flags = tier.before in let security = flags.before in let class = security.before in let action = class.before in let updated = action.before in let symbol = updated.before in λ i. record { symbol = symbol.text14_at.ensures i; updated = updated.u64_at.ensures i; action = action.u8_at.ensures i; class = class.u8_at-2.ensures i; security = security.u32_at.ensures i; flags = flags.u16_at.ensures i; tier = tier.u8_at-3.ensures i; reporting = reporting.u8_at-4.ensures i; status = c.u8_at-5.ensures i })
+returns c = λ i. record { symbol = c.text14_at.ensures i; updated = c.u64_at.ensures i; action = c.u8_at.ensures i; class = c.u8_at-2.ensures i; security = c.u32_at.ensures i; flags = c.u16_at.ensures i; tier = c.u8_at-3.ensures i; reporting = c.u8_at-4.ensures i; status = c.u8_at-5.ensures i }
 
 pub text14_at-requires : goal.text14_at-requires
 text14_at-requires c = within tt c.requires

@@ -4,7 +4,7 @@ use Rattle.wire.proofs.Layouts.{within}
 use Rattle.message_layouts.proofs.spin_end.Goals as goal
 
 pub returns : goal.returns
-returns c = (let time = c.before in let count = time.before in let spin = count.before in λ i. record { spin = spin.u8_at.ensures i; count = count.u32_at.ensures i; time = time.u64_at.ensures i; last = c.u32_at-2.ensures i })
+returns c = λ i. record { spin = c.u8_at.ensures i; count = c.u32_at.ensures i; time = c.u64_at.ensures i; last = c.u32_at-2.ensures i }
 
 pub u8_at-requires : goal.u8_at-requires
 u8_at-requires c = within tt c.requires

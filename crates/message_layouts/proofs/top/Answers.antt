@@ -4,7 +4,7 @@ use Rattle.wire.proofs.Layouts.{within}
 use Rattle.message_layouts.proofs.top.Goals as goal
 
 pub returns : goal.returns
-returns c = (let bid = c.before in let ask = bid.before in let symbol = ask.before in let time = symbol.before in λ i. record { time = time.u32_at.ensures i; symbol = symbol.text14_at.ensures i; ask = ask.quote.ensures i; bid = bid.quote-2.ensures i; unsolicited = c.u8_at.ensures i })
+returns c = λ i. record { time = c.u32_at.ensures i; symbol = c.text14_at.ensures i; ask = c.quote.ensures i; bid = c.quote-2.ensures i; unsolicited = c.u8_at.ensures i }
 
 pub u32_at-requires : goal.u32_at-requires
 u32_at-requires c = within tt c.requires

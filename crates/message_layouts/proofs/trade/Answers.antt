@@ -4,7 +4,7 @@ use Rattle.wire.proofs.Layouts.{within}
 use Rattle.message_layouts.proofs.trade.Goals as goal
 
 pub returns : goal.returns
-returns c = (let execution = c.before in let deal = execution.before in let time = deal.before in λ i. record { time = time.u32_at.ensures i; deal = deal.deal.ensures i; execution = execution.u64_at.ensures i; reserved = c.u64_at-2.ensures i })
+returns c = λ i. record { time = c.u32_at.ensures i; deal = c.deal.ensures i; execution = c.u64_at.ensures i; reserved = c.u64_at-2.ensures i }
 
 pub u32_at-requires : goal.u32_at-requires
 u32_at-requires c = within tt c.requires

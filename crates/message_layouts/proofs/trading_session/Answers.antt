@@ -4,7 +4,7 @@ use Rattle.wire.proofs.Layouts.{within}
 use Rattle.message_layouts.proofs.trading_session.Goals as goal
 
 pub returns : goal.returns
-returns c = (let time = c.before in λ i. record { time = time.u64_at.ensures i; session = c.u8_at.ensures i })
+returns c = λ i. record { time = c.u64_at.ensures i; session = c.u8_at.ensures i }
 
 pub u64_at-requires : goal.u64_at-requires
 u64_at-requires c = within tt c.requires

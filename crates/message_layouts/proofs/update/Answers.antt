@@ -4,7 +4,7 @@ use Rattle.wire.proofs.Layouts.{within}
 use Rattle.message_layouts.proofs.update.Goals as goal
 
 pub returns : goal.returns
-returns c = (let price = c.before in let quantity = price.before in let named = quantity.before in λ i. record { named = named.named.ensures i; quantity = quantity.u32_at.ensures i; price = price.u64_at.ensures i; flags = c.u16_at.ensures i })
+returns c = λ i. record { named = c.named.ensures i; quantity = c.u32_at.ensures i; price = c.u64_at.ensures i; flags = c.u16_at.ensures i }
 
 pub named-requires : goal.named-requires
 named-requires c = within tt c.requires

@@ -1,6 +1,5 @@
 -- `message_read::refusal` answers the number with no message.
 -- Assumes nothing.
-use borrow.Author.Rules.{rules}
 use Rattle.message_read.proofs.refusal.Goals as goal
 
 pub returns : goal.returns

@@ -2,11 +2,10 @@
 -- Assumes nothing.
 use mathlib.Core.Path.{refl}
 use Rattle.message.proofs.Cases.{broken_is}
-use borrow.Author.Rules.{rules}
 use Rattle.message_rules.proofs.add.Goals as goal
 
 pub returns : goal.returns
-returns c = (let sided = c.before in let sided-test = sided.before in let dealt = sided-test.before in let told = dealt.before in let told-test = told.before in broken_is 7 c.broken_or.ensures refl (broken_is 21 sided.broken_or-sided.ensures sided-test.good_side.ensures (broken_is 22 dealt.deal-dealt.ensures refl (broken_is 26 refl refl (broken_is 40 refl refl (broken_is 52 told.broken_or-told.ensures told-test.good_unsolicited.ensures refl))))))
+returns c = broken_is 7 c.broken_or.ensures refl (broken_is 21 c.broken_or-sided.ensures c.good_side.ensures (broken_is 22 c.deal-dealt.ensures refl (broken_is 26 refl refl (broken_is 40 refl refl (broken_is 52 c.broken_or-told.ensures c.good_unsolicited.ensures refl)))))
 
 pub good_unsolicited-requires : goal.good_unsolicited-requires
 good_unsolicited-requires c = tt

@@ -4,7 +4,6 @@ use mathlib.Core.Path.{refl}
 use Rattle.message.specs.Layouts.{layout_of}
 use Rattle.message.specs.Rules.{broken_of}
 use Rattle.message.proofs.Cases.{executed-is, kind_is, other_is, tested}
-use borrow.Author.Rules.{rules}
 use Rattle.message_rules.proofs.broken.Goals as goal
 
 pub returns-in-Security : goal.returns-in-Security

@@ -2,11 +2,10 @@
 -- Assumes nothing.
 use mathlib.Core.Path.{refl}
 use Rattle.message.proofs.Cases.{broken_is}
-use borrow.Author.Rules.{rules}
 use Rattle.message_rules.proofs.deal.Goals as goal
 
 pub returns : goal.returns
-returns c = (let sized-test = c.before in let about = sized-test.before in let about-test = about.before in let priced = about-test.before in let priced-test = priced.before in broken_is _ c.broken_or.ensures sized-test.good_quantity.ensures (broken_is _ about.broken_or-about.ensures about-test.good_symbol.ensures (broken_is _ priced.broken_or-priced.ensures priced-test.good_price.ensures refl)))
+returns c = broken_is _ c.broken_or.ensures c.good_quantity.ensures (broken_is _ c.broken_or-about.ensures c.good_symbol.ensures (broken_is _ c.broken_or-priced.ensures c.good_price.ensures refl))
 
 pub good_price-requires : goal.good_price-requires
 good_price-requires c = tt

@@ -5,7 +5,7 @@ use Rattle.message.proofs.Cases.{broken_is}
 use Rattle.message_rules.proofs.execution.Goals as goal
 
 pub returns : goal.returns
-returns c = (let sized = c.before in let sized-test = sized.before in broken_is 7 c.broken_or.ensures refl (broken_is 21 sized.broken_or-sized.ensures sized-test.good_quantity.ensures refl))
+returns c = broken_is 7 c.broken_or.ensures refl (broken_is 21 c.broken_or-sized.ensures c.good_quantity.ensures refl)
 
 pub good_quantity-requires : goal.good_quantity-requires
 good_quantity-requires c = tt

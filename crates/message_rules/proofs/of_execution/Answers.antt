@@ -1,6 +1,5 @@
 -- The first broken field of an execution, by its terms.
 -- Assumes nothing.
-use borrow.Author.Rules.{rules}
 use Rattle.message.proofs.Cases.{terms_are}
 use Rattle.message_rules.proofs.of_execution.Goals as goal
 

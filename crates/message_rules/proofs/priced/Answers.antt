@@ -5,7 +5,7 @@ use Rattle.message.proofs.Cases.{broken_is}
 use Rattle.message_rules.proofs.priced.Goals as goal
 
 pub returns : goal.returns
-returns c = (let sized = c.before in let sized-test = sized.before in let priced = sized-test.before in let priced-test = priced.before in broken_is 7 c.broken_or.ensures refl (broken_is 21 sized.broken_or-sized.ensures sized-test.good_quantity.ensures (broken_is 37 priced.broken_or-priced.ensures priced-test.good_price.ensures refl)))
+returns c = broken_is 7 c.broken_or.ensures refl (broken_is 21 c.broken_or-sized.ensures c.good_quantity.ensures (broken_is 37 c.broken_or-priced.ensures c.good_price.ensures refl))
 
 pub good_price-requires : goal.good_price-requires
 good_price-requires c = tt

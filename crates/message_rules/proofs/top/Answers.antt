@@ -5,7 +5,7 @@ use Rattle.message.proofs.Cases.{broken_is}
 use Rattle.message_rules.proofs.top.Goals as goal
 
 pub returns : goal.returns
-returns c = (let last-test = c.before in let asked = last-test.before in let asked-test = asked.before in let bidden = asked-test.before in let bidden-test = bidden.before in let told = bidden-test.before in let told-test = told.before in broken_is 7 c.broken_or.ensures last-test.good_symbol.ensures (broken_is 21 asked.broken_or-asked.ensures asked-test.good_inside_price-2.ensures (broken_is 33 bidden.broken_or-bidden.ensures bidden-test.good_inside_price.ensures (broken_is 45 told.broken_or-told.ensures told-test.good_unsolicited.ensures refl))))
+returns c = broken_is 7 c.broken_or.ensures c.good_symbol.ensures (broken_is 21 c.broken_or-asked.ensures c.good_inside_price-2.ensures (broken_is 33 c.broken_or-bidden.ensures c.good_inside_price.ensures (broken_is 45 c.broken_or-told.ensures c.good_unsolicited.ensures refl)))
 
 pub good_unsolicited-requires : goal.good_unsolicited-requires
 good_unsolicited-requires c = tt

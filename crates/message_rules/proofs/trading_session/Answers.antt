@@ -5,7 +5,7 @@ use Rattle.message.proofs.Cases.{broken_is}
 use Rattle.message_rules.proofs.trading_session.Goals as goal
 
 pub returns : goal.returns
-returns c = (let last-test = c.before in broken_is 11 c.broken_or.ensures last-test.good_session.ensures refl)
+returns c = broken_is 11 c.broken_or.ensures c.good_session.ensures refl
 
 pub good_session-requires : goal.good_session-requires
 good_session-requires c = tt

@@ -12,15 +12,9 @@ use Rattle.message_put.proofs.put.add.Goals as goal
 
 pub returns : goal.returns
 returns c =
-    let flags = c.before.before in
-    let unsolicited = flags.before.before.before.before in
-    let firm = unsolicited.before.before.before.before in
-    let deal = firm.before.before.before.before.before in
-    let named = deal.before.before.before.before in
-    let start = named.before.before.before in
-    let id-long : length start.args.id ≡ 14 = start.well-formed.1.1.1.0.1.0.1 in
-    let symbol-long : length start.args.symbol ≡ 14 = start.well-formed.1.1.1.1.1.1.0.1.0.1 in
-    let firm-long : length start.args.firm ≡ 4 = start.well-formed.1.1.1.1.1.1.1.1.0.1.0.1 in
-    let room : start.args.at ≤ length start.args.buf.now = omega (arith, start.requires) in
-    let front = parts_row _ _ _ _ _ _ (id-long, tt) room named.named.ensures deal.deal.ensures in
-    row_then _ (text 4 ∷ number 1 ∷ number 2 ∷ []) _ (text_is _ ∷ number_is _ ∷ number_is _ ∷ []) _ _ (id-long, (symbol-long, tt)) (firm-long, tt) room front (then _ _ (then _ _ firm.put_text.ensures unsolicited.put_u8.ensures) flags.put_u16.ensures)
+    let id-long : length c.args.id ≡ 14 = search rules in
+    let symbol-long : length c.args.symbol ≡ 14 = search rules in
+    let firm-long : length c.args.firm ≡ 4 = search rules in
+    let room : c.args.at ≤ length c.args.buf.now = omega (arith, c.requires) in
+    let front = parts_row _ _ _ _ _ _ (id-long, tt) room c.named.ensures c.deal.ensures in
+    row_then _ (text 4 ∷ number 1 ∷ number 2 ∷ []) _ (text_is _ ∷ number_is _ ∷ number_is _ ∷ []) _ _ (id-long, (symbol-long, tt)) (firm-long, tt) room front (then _ _ (then _ _ c.put_text.ensures c.put_u8.ensures) c.put_u16.ensures)

@@ -8,8 +8,5 @@ use Rattle.message_put.proofs.put.named.Goals as goal
 
 pub returns : goal.returns
 returns c =
-    let id = c.before.before in
-    let time = id.before.before.before.before.before in
-    let start = time.before.before.before in
-    let long : length start.args.id ≡ 14 = start.well-formed.1.1.1.0.1.0.1 in
-    puts_row _ _ _ _ (long, tt) (search rules) (then _ _ time.put_u32.ensures id.put_text.ensures)
+    let long : length c.args.id ≡ 14 = search rules in
+    puts_row _ _ _ _ (long, tt) (search rules) (then _ _ c.put_u32.ensures c.put_text.ensures)

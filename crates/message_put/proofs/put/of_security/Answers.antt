@@ -6,6 +6,4 @@ use Rattle.message_put.proofs.put.of_security.Goals as goal
 
 pub returns : goal.returns
 returns c =
-    let back = c.before.before in
-    let front = back.before.before.before.before in
-    parts_row _ _ _ _ _ _ (search rules) (search rules) front.security_front.ensures back.security_back.ensures
+    parts_row _ _ _ _ _ _ (search rules) (search rules) c.security_front.ensures c.security_back.ensures

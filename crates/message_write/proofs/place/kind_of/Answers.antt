@@ -2,7 +2,6 @@
 -- Assumes nothing.
 use mathlib.Core.Path.{refl}
 use Rattle.message_write.proofs.ByKind.{kind_type}
-use borrow.Author.Rules.{rules}
 use Rattle.message_write.proofs.place.kind_of.Goals as goal
 
 pub returns-in-Security : goal.returns-in-Security

@@ -3,7 +3,6 @@
 use mathlib.Core.Path.{◌∙◌, ap}
 use Prim.Native.Nat.{◌+◌}
 use Rattle.message_write.specs.Writing.{message_size}
-use borrow.Author.Rules.{rules}
 use Rattle.message_write.proofs.place.size_of.Goals as goal
 
 pub returns : goal.returns

@@ -3,11 +3,13 @@
 use mathlib.Core.Path.{◌∙◌, sym}
 use native.Mathlib.Omega.{arith}
 use Rattle.message_write.proofs.Writing.{counted, kept, placed}
-use borrow.Author.Rules.{rules}
 use Rattle.message_write.proofs.place.write.Goals as goal
 
 pub returns-in_default : goal.returns-in_default
-returns-in_default c = (c.judge-answer.ensures, kept _ _ _ (sym c.judge-answer.ensures ∙ c.in_default.is))
+returns-in_default c = record {
+  answer = c.judge-answer.ensures;
+  buffer = kept _ _ _ (sym c.judge-answer.ensures ∙ c.in_default.is);
+}
 
 pub overflow_cast-size : goal.overflow_cast-size
 overflow_cast-size c = let k = counted _ _ _ _ (sym c.judge-answer.ensures ∙ c.in-Count.is) in omega arith
@@ -23,6 +25,5 @@ fields-requires c = let k = counted _ _ _ _ (sym c.judge-answer.ensures ∙ c.in
 
 pub returns : goal.returns
 returns c =
-    let j = c.before.before.before.before.before.before.before.before.before in
-    let e = sym j.judge-answer.ensures ∙ j.in-Count.is in
-    (sym e, placed _ _ _ e j.kind_of-kind.ensures c.head.ensures c.fields.ensures)
+    let e = sym c.judge-answer.ensures ∙ c.in-Count.is in
+    record { answer = sym e; buffer = placed _ _ _ e c.kind_of-kind.ensures c.head.ensures c.fields.ensures }

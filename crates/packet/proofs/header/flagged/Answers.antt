@@ -3,7 +3,6 @@
 use mathlib.Core.Path.{◌∙◌}
 use borrow.Author.Tests.{eq-eqb, ne_eqb}
 use Rattle.packet.specs.Header.{flag_tests}
-use borrow.Author.Rules.{rules}
 use Rattle.packet.proofs.header.flagged.Goals as goal
 
 pub returns-then-flag-ne0 : goal.returns-then-flag-ne0
@@ -12,20 +11,20 @@ returns-then-flag-ne0 c = c.verdict.ensures ∙ simp (ne_eqb _ _ c.if-flag-ne0.t
 
 pub returns-then-size-ne-BARE : goal.returns-then-size-ne-BARE
 unfolding flag_tests
-returns-then-size-ne-BARE c = (let at-if3 = c.before in let at-if2 = at-if3.before in let at-if1 = at-if2.before in c.verdict-then-size-ne-BARE.ensures ∙ simp (eq-eqb _ _ at-if1.if-flag-ne0.false, eq-eqb _ _ at-if2.if-flag-eq1.true, ne_eqb _ _ at-if3.if-size-ne-BARE.true))
+returns-then-size-ne-BARE c = c.verdict-then-size-ne-BARE.ensures ∙ simp (eq-eqb _ _ c.if-flag-ne0.false, eq-eqb _ _ c.if-flag-eq1.true, ne_eqb _ _ c.if-size-ne-BARE.true)
 
 pub returns-then-messages-ne0 : goal.returns-then-messages-ne0
 unfolding flag_tests
-returns-then-messages-ne0 c = (let at-if4 = c.before in let at-if3 = at-if4.before in let at-if2 = at-if3.before in let at-if1 = at-if2.before in c.verdict-then-messages-ne0.ensures ∙ simp (eq-eqb _ _ at-if1.if-flag-ne0.false, eq-eqb _ _ at-if2.if-flag-eq1.true, eq-eqb _ _ at-if3.if-size-ne-BARE.false, ne_eqb _ _ at-if4.if-messages-ne0.true))
+returns-then-messages-ne0 c = c.verdict-then-messages-ne0.ensures ∙ simp (eq-eqb _ _ c.if-flag-ne0.false, eq-eqb _ _ c.if-flag-eq1.true, eq-eqb _ _ c.if-size-ne-BARE.false, ne_eqb _ _ c.if-messages-ne0.true)
 
 pub returns-then-flag-eq1 : goal.returns-then-flag-eq1
 unfolding flag_tests
-returns-then-flag-eq1 c = (let at-if4 = c.before in let at-if3 = at-if4.before in let at-if2 = at-if3.before in let at-if1 = at-if2.before in c.verdict-then-flag-eq1.ensures ∙ simp (eq-eqb _ _ at-if1.if-flag-ne0.false, eq-eqb _ _ at-if2.if-flag-eq1.true, eq-eqb _ _ at-if3.if-size-ne-BARE.false, eq-eqb _ _ at-if4.if-messages-ne0.false))
+returns-then-flag-eq1 c = c.verdict-then-flag-eq1.ensures ∙ simp (eq-eqb _ _ c.if-flag-ne0.false, eq-eqb _ _ c.if-flag-eq1.true, eq-eqb _ _ c.if-size-ne-BARE.false, eq-eqb _ _ c.if-messages-ne0.false)
 
 pub returns-then-messages-eq0 : goal.returns-then-messages-eq0
 unfolding flag_tests
-returns-then-messages-eq0 c = (let at-if5 = c.before in let at-if2 = at-if5.before in let at-if1 = at-if2.before in c.verdict-then-messages-eq0.ensures ∙ simp (eq-eqb _ _ at-if1.if-flag-ne0.false, ne_eqb _ _ at-if2.if-flag-eq1.false, eq-eqb _ _ at-if5.if-messages-eq0.true))
+returns-then-messages-eq0 c = c.verdict-then-messages-eq0.ensures ∙ simp (eq-eqb _ _ c.if-flag-ne0.false, ne_eqb _ _ c.if-flag-eq1.false, eq-eqb _ _ c.if-messages-eq0.true)
 
 pub returns : goal.returns
 unfolding flag_tests
-returns c = (let at-if5 = c.before in let at-if2 = at-if5.before in let at-if1 = at-if2.before in c.verdict-2.ensures ∙ simp (eq-eqb _ _ at-if1.if-flag-ne0.false, ne_eqb _ _ at-if2.if-flag-eq1.false, ne_eqb _ _ at-if5.if-messages-eq0.false))
+returns c = c.verdict-2.ensures ∙ simp (eq-eqb _ _ c.if-flag-ne0.false, ne_eqb _ _ c.if-flag-eq1.false, ne_eqb _ _ c.if-messages-eq0.false)

@@ -1,7 +1,6 @@
 -- `packet::read_header` meets its contract: the test that decides, or the fields.
 -- Assumes nothing.
 use Rattle.packet.proofs.Headers.{refused, good, whole}
-use borrow.Author.Rules.{rules}
 use Rattle.packet.proofs.header.read_header.Goals as goal
 
 pub returns-then-answer-ne0 : goal.returns-then-answer-ne0

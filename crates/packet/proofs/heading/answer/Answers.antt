@@ -1,7 +1,6 @@
 -- `packet::answer` meets its contract: each way out is the first test that applies.
 -- Assumes nothing.
 use Rattle.packet.proofs.Writings.{small, large, forbidden, narrow, fits}
-use borrow.Author.Rules.{rules}
 use Rattle.packet.proofs.heading.answer.Goals as goal
 
 pub returns-then-size-lt-BARE : goal.returns-then-size-lt-BARE
@@ -11,10 +10,10 @@ pub returns-then-size-gt-FULL : goal.returns-then-size-gt-FULL
 returns-then-size-gt-FULL c = large _ _ c.if-size-lt-BARE.false c.if-size-gt-FULL.true
 
 pub returns-then-judged-ne0 : goal.returns-then-judged-ne0
-returns-then-judged-ne0 c = (let at-flagged = c.before.before in let at-if2 = at-flagged.before in let at-if1 = at-if2.before in forbidden _ _ at-if1.if-size-lt-BARE.false at-if2.if-size-gt-FULL.false at-flagged.flagged-judged.ensures c.if-judged-ne0.true)
+returns-then-judged-ne0 c = forbidden _ _ c.if-size-lt-BARE.false c.if-size-gt-FULL.false c.flagged-judged.ensures c.if-judged-ne0.true
 
 pub returns-then-n-lt-HEADER : goal.returns-then-n-lt-HEADER
-returns-then-n-lt-HEADER c = (let at-if3 = c.before in let at-flagged = at-if3.before.before in let at-if2 = at-flagged.before in let at-if1 = at-if2.before in narrow _ _ at-if1.if-size-lt-BARE.false at-if2.if-size-gt-FULL.false at-flagged.flagged-judged.ensures at-if3.if-judged-ne0.false c.if-n-lt-HEADER.true)
+returns-then-n-lt-HEADER c = narrow _ _ c.if-size-lt-BARE.false c.if-size-gt-FULL.false c.flagged-judged.ensures c.if-judged-ne0.false c.if-n-lt-HEADER.true
 
 pub returns : goal.returns
-returns c = (let at-if3 = c.before in let at-flagged = at-if3.before.before in let at-if2 = at-flagged.before in let at-if1 = at-if2.before in fits _ _ at-if1.if-size-lt-BARE.false at-if2.if-size-gt-FULL.false at-flagged.flagged-judged.ensures at-if3.if-judged-ne0.false c.if-n-lt-HEADER.false)
+returns c = fits _ _ c.if-size-lt-BARE.false c.if-size-gt-FULL.false c.flagged-judged.ensures c.if-judged-ne0.false c.if-n-lt-HEADER.false

@@ -13,7 +13,7 @@ pub step_by-size-requires : goal.step_by-size-requires
 step_by-size-requires c = (search rules, c.sizes-sizes.ensures)
 
 pub returns-then-size-eq0 : goal.returns-then-size-eq0
-returns-then-size-eq0 c = (let at-step-by = c.before in let at-loop-test = at-step-by.before.before in let at-loop = at-loop-test.before in walk_stops _ _ _ at-step-by.step_by-size.ensures _ at-loop-test.loop-left-test.true c.if-size-eq0.true ∙ sym at-loop.loop-left.invariant.1.1)
+returns-then-size-eq0 c = let at-step-by = c.before in let at-loop-test = at-step-by.before.before in let at-loop = at-loop-test.before in walk_stops _ _ _ at-step-by.step_by-size.ensures _ at-loop-test.loop-left-test.true c.if-size-eq0.true ∙ sym at-loop.loop-left.invariant.1.1
 
 pub overflow_add-at : goal.overflow_add-at
 overflow_add-at c = omega (arith, (step_within _ _ _ c.step_by-size.ensures c.if-size-eq0.false).within)
