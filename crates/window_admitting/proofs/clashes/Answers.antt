@@ -5,4 +5,4 @@ use borrow.Author.Rules.{rules}
 use Rattle.window_admitting.proofs.clashes.Goals as goal
 
 pub returns-then-end-first : goal.returns-then-end-first
-returns-then-end-first c = none_clashes _ _ _ c.requires.known.0 c.if-end-first.true
+returns-then-end-first c = none_clashes _ _ _ c.requires.known c.if-end-first.true

@@ -7,17 +7,14 @@ use Rattle.window_taking.proofs.Frames.{closed, is_true, not_begun, room_for}
 use borrow.Author.Rules.{rules}
 use Rattle.window_burst.proofs.close.Goals as goal
 
-begun : (c : goal.Else-not-turn) → c.args.turn.begun ≡ true
-begun c = is_true c.args.turn.begun c.if-not-turn.false
-
 pub returns-then-not-turn : goal.returns-then-not-turn
 returns-then-not-turn c = not_begun c.args.turn c.args.next c.args.answers.now c.if-not-turn.true
 
 pub returns : goal.returns
-returns c = closed c.args.turn c.args.next c.args.answers.now (begun c.before.before.before.before.before.before) c.put_answer.ensures
+returns c = closed c.args.turn c.args.next c.args.answers.now (is_true c.args.turn.begun c.if-not-turn.false) c.put_answer.ensures
 
 pub overflow_sub-applied : goal.overflow_sub-applied
 overflow_sub-applied c = omega (arith, c.requires.low)
 
 pub put_answer-requires : goal.put_answer-requires
-put_answer-requires c = room_for c.requires (begun c.before.before.before)
+put_answer-requires c = room_for c.requires (is_true c.args.turn.begun c.if-not-turn.false)

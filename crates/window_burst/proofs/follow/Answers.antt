@@ -9,13 +9,13 @@ use borrow.Author.Rules.{rules}
 use Rattle.window_burst.proofs.follow.Goals as goal
 
 pub returns : goal.returns
-returns c = (c.begin.ensures.turn ∙ ap (λ (n : ℕ). turn_of (state_of c.args.window.now c.args.next c.args.turn.end) c.args.single c.args.s.now c.args.turn.at (c.args.turn.left - 1) n) c.after-place.ensures, c.begin.ensures.kept)
+returns c = record { turn = c.begin.ensures.turn ∙ ap (λ (n : ℕ). turn_of (state_of c.args.window.now c.args.next c.args.turn.end) c.args.single c.args.s.now c.args.turn.at (c.args.turn.left - 1) n) c.after-place.ensures; kept = c.begin.ensures.kept }
 
 pub overflow_sub-left : goal.overflow_sub-left
-overflow_sub-left c = omega (arith, c.requires.follows.0.left)
+overflow_sub-left c = omega (arith, c.requires.follows.left)
 
 pub after-place-requires : goal.after-place-requires
-after-place-requires c = c.requires.follows.0.place
+after-place-requires c = c.requires.follows.place
 
 pub begin-requires : goal.begin-requires
-begin-requires c = (c.requires.neat, (c.requires.follows.0.lies, c.requires.follows.1))
+begin-requires c = record { neat = c.requires.neat; lies = c.requires.follows.lies; known = c.requires.known }

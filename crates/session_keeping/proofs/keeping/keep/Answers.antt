@@ -9,16 +9,18 @@ use Rattle.session_keeping.proofs.Keeps.{answer_told, known_here, neat_here, one
 use borrow.Author.Rules.{rules}
 use Rattle.session_keeping.proofs.keeping.keep.Goals as goal
 
-bytes : (c : goal.After-shared_slice_known-1) → Bytes c.args.packet.now
-bytes c = bytes_of c.args.packet.now (λ i. omega (arith, c.shared_slice_known-1.given i))
-
 pub returns : goal.returns
 returns c =
     let room = c.args.room.now in
     let window = c.args.window.now in
     let packet = c.args.packet.now in
     let admitted = c.admit-admitted.ensures in
-    (answer_told (line_in room window) packet admitted.0 c.kept_by.ensures, ((λ s rule. one_held rule packet admitted.0 admitted.1), (λ s rule. one_ruled rule packet admitted.0 admitted.1 (bytes c.before.before.before.before.before.before))))
+    let bytes : Bytes packet = bytes_of packet (λ i. omega (arith, c.type_inv.packet i)) in
+    record {
+      answer = answer_told (line_in room window) packet admitted.answer c.kept_by.ensures;
+      held = λ s rule. one_held rule packet admitted.answer admitted.kept;
+      rule = λ s rule. one_ruled rule packet admitted.answer admitted.kept bytes;
+    }
 
 pub admit-admitted-requires : goal.admit-admitted-requires
-admit-admitted-requires c = (neat_here c.requires.1, known_here c.requires.1)
+admit-admitted-requires c = record { neat = neat_here c.requires.1; known = known_here c.requires.1 }

@@ -14,9 +14,6 @@ use Rattle.session_keeping.proofs.Keeps.{all_held, all_ruled, burst_kept_lem, kn
 use borrow.Author.Rules.{rules}
 use Rattle.session_keeping.proofs.keeping.keep_burst.Goals as goal
 
-bytes : (c : goal.After-shared_slice_known-1) → Bytes c.args.packets.now
-bytes c = bytes_of c.args.packets.now (λ i. omega (arith, c.shared_slice_known-1.given i))
-
 pub keep_packets-kept-requires : goal.keep_packets-kept-requires
 keep_packets-kept-requires c =
     let some = c.requires in
@@ -24,7 +21,7 @@ keep_packets-kept-requires c =
     let packets = c.args.packets.now in
     let answers = c.args.answers.now in
     let most = c.args.count in
-    (neat_here some.1, (known_here some.1, (burst_runs x packets answers most refl c.due_of-due.ensures (omega arith)).room))
+    record { neat = neat_here some.1; known = known_here some.1; count_in_bounds = (burst_runs x packets answers most refl c.due_of-due.ensures (omega arith)).room }
 
 pub returns : goal.returns
 returns c =
@@ -38,16 +35,12 @@ returns c =
     let dues = c.due_of-due.ensures in
     let kept = c.keep_packets-kept.ensures in
     let x = view (held some.0 room window) in
-    let list = packets_in due packets in (
-      count-is x packets answers most refl dues kept.1.1.0 c.count_of.ensures,
-      (
-        bytes_are x packets answers most refl dues kept.1.1.1.0,
-        (
-          rows_kept x packets answers most refl dues (line_in room window) kept.1.0,
-          (
-            (λ s rule. burst_kept_lem (view (held s room window)) packets answers most refl dues (all_held rule list kept.1.1.1.1 kept.0)),
-            (λ s rule. all_ruled rule list kept.1.1.1.1 kept.0 (packets_bytes false due 0 packets (bytes c.before.before.before.before.before.before.before.before.before.before.before))),
-          ),
-        ),
-      ),
-    )
+    let list = packets_in due packets in
+    let bytes : Bytes packets = bytes_of packets (λ i. omega (arith, c.type_inv.packets i)) in
+    record {
+      count = count-is x packets answers most refl dues kept.taken c.count_of.ensures;
+      bytes = bytes_are x packets answers most refl dues kept.at;
+      answers = rows_kept x packets answers most refl dues (line_in room window) kept.answers;
+      held = λ s rule. burst_kept_lem (view (held s room window)) packets answers most refl dues (all_held rule list kept.end kept.kept);
+      rule = λ s rule. all_ruled rule list kept.end kept.kept (packets_bytes false due 0 packets bytes);
+    }

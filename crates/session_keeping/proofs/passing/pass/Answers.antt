@@ -14,7 +14,7 @@ returns-then-applies c =
     let window = c.args.window.now in
     let packet = c.args.packet.now in
     let may = sym c.applies.ensures ∙ c.if-applies.true in
-    (told_applies room window packet may, ((λ s rule. left_alone rule packet may), (λ s rule. rule)))
+    record { answer = told_applies room window packet may; held = λ s rule. left_alone rule packet may; rule = λ s rule. rule }
 
 pub returns : goal.returns
 returns c =
@@ -23,7 +23,11 @@ returns c =
     let packet = c.args.packet.now in
     let not_so = sym c.applies.ensures ∙ c.if-applies.false in
     let kept = c.keep-kept.ensures in
-    (told_passed room window packet not_so kept.0 c.passed_by.ensures, ((λ s rule. kept_over rule packet not_so (kept.1.0 s rule)), (λ s rule. kept.1.1 s rule)))
+    record {
+      answer = told_passed room window packet not_so kept.answer c.passed_by.ensures;
+      held = λ s rule. kept_over rule packet not_so (kept.held s rule);
+      rule = λ s rule. kept.rule s rule;
+    }
 
 pub applies-requires : goal.applies-requires
 applies-requires c = omega (arith, (numbered c.requires.1).order, (numbered c.requires.1).top)
