@@ -8,8 +8,6 @@ use Prim.Native.Nat.{ℕ}
 use native.Mathlib.Decide.{dec_lt}
 use native.Mathlib.Omega.{arith}
 use borrow.Author.Tests.{eqb-true, leb-true}
-use denote.Enum.Declared.{tag_of}
-use types.Run.{OneOf, miss}
 use lib.Dec.{eqb, leb}
 use lib.ListN.{get_or, take}
 use Rattle.wire.specs.Number.{part}
@@ -30,7 +28,6 @@ use Rattle.book.specs.declared.deciding.Effect.TheVariants.{Put, Replace, Remove
 use Rattle.book.specs.declared.lookup.Found.{Found}
 use Rattle.book.specs.declared.tables.Inside.{Inside}
 use Rattle.book.specs.declared.tables.OpeningRule.{OpeningRule}
-use Rattle.book.specs.contracts.deciding.Effect.{the_type}
 use Rattle.book.proofs.Steps.{Decided, seen-is, unchanged_done}
 use Rattle.book.proofs.Told.{Change, by_faults, tells, unfaulted}
 use Rattle.book.proofs.Types.{add_id, no, pick, top_topic, type_kept}
@@ -125,7 +122,7 @@ named-listed t named =
     λ b. by_cases (dec_lt t 25) (λ l. let e : t ≡ 24 = omega arith in rw e refl) (λ c. let e : t ≡ 25 = omega arith in rw e refl)
 
 -- an Add that is no fault puts its order
-no_fault : (e : Effect) → OneOf (0 ∷ 1 ∷ 2 ∷ 3 ∷ 4 ∷ 5 ∷ 6 ∷ 8 ∷ []) (tag_of the_type e) → is_fault e ≡ false
+no_fault : (e : Effect) → ((reason : ℕ) → e ≡ Fault reason → ⊥) → is_fault e ≡ false
 no_fault Put h = refl
 no_fault (Replace place shares price) h = refl
 no_fault (Remove place) h = refl
@@ -133,7 +130,7 @@ no_fault (Renew place) h = refl
 no_fault Enter h = refl
 no_fault (Record code) h = refl
 no_fault Unchanged h = refl
-no_fault (Fault reason) h = absurd (miss (0 ∷ 1 ∷ 2 ∷ 3 ∷ 4 ∷ 5 ∷ 6 ∷ 8 ∷ []) 7 tt h)
+no_fault (Fault reason) h = absurd (h reason refl)
 no_fault CountApart h = refl
 
 -- whether an effect is one on the orders
@@ -172,7 +169,7 @@ module _ {b : Book} {s : List ℕ} {key : ℕ} {topic : List ℕ} {e : Effect} (
   abbrev m : Message
   m = message_in s
 
-  pub put_left : type_in s ≡ 21 → OneOf (0 ∷ 1 ∷ 2 ∷ 3 ∷ 4 ∷ 5 ∷ 6 ∷ 8 ∷ []) (tag_of the_type e) → e ≡ Put
+  pub put_left : type_in s ≡ 21 → ((reason : ℕ) → e ≡ Fault reason → ⊥) → e ≡ Put
   put_left type h =
       let t : type_of m ≡ 21 = type_kept (type_in s) s ∙ type in
       d.effect
@@ -190,40 +187,44 @@ module _ {b : Book} {s : List ℕ} {key : ℕ} {topic : List ℕ} {e : Effect} (
   enter_symbol is made = ap (λ (i : Inside). i.symbol) made ∙ top_topic s (type_of_lem (changed is).type)
 
   -- a message that names an order replaces, removes or faults
-  pub change_left : (number : ℕ) → names (type_in s) ≡ true → OneOf (0 ∷ 3 ∷ 4 ∷ 5 ∷ 6 ∷ 8 ∷ []) (tag_of the_type e) → b ≡ rep (apply_of (view b) number s)
-  change_left number named = go e refl
+  pub change_left : (number : ℕ) → names (type_in s) ≡ true
+      → ((place shares price : ℕ) → e ≡ Replace place shares price → ⊥) → ((place : ℕ) → e ≡ Remove place → ⊥) → ((reason : ℕ) → e ≡ Fault reason → ⊥)
+      → b ≡ rep (apply_of (view b) number s)
+  change_left number named replaces removes faults = go e refl
     where
       none : {A : Type 0} (k : ℕ) → type_of m ≡ k → names k ≡ false → A
       none k is out = no (sym out ∙ ap names (sym (type_of_lem is)) ∙ named)
 
-      go : (e' : Effect) → e ≡ e' → OneOf (0 ∷ 3 ∷ 4 ∷ 5 ∷ 6 ∷ 8 ∷ []) (tag_of the_type e') → b ≡ rep (apply_of (view b) number s)
-      go Put is h = none 21 (changed is).type refl
-      go (Replace place shares price) is h = absurd (miss (0 ∷ 3 ∷ 4 ∷ 5 ∷ 6 ∷ 8 ∷ []) 1 tt h)
-      go (Remove place) is h = absurd (miss (0 ∷ 3 ∷ 4 ∷ 5 ∷ 6 ∷ 8 ∷ []) 2 tt h)
-      go (Renew place) is h = none 26 (changed is).type refl
-      go Enter is h = none 26 (changed is).type refl
-      go (Record code) is h = none 20 (changed is).type refl
-      go Unchanged is h = unchanged_done d number is
-      go (Fault reason) is h = absurd (miss (0 ∷ 3 ∷ 4 ∷ 5 ∷ 6 ∷ 8 ∷ []) 7 tt h)
-      go CountApart is h = no (sym (changed is).0 ∙ named-listed (type_of m) (ap names (type_kept (type_in s) s) ∙ named))
+      go : (e' : Effect) → e ≡ e' → b ≡ rep (apply_of (view b) number s)
+      go Put is = none 21 (changed is).type refl
+      go (Replace place shares price) is = absurd (replaces place shares price is)
+      go (Remove place) is = absurd (removes place is)
+      go (Renew place) is = none 26 (changed is).type refl
+      go Enter is = none 26 (changed is).type refl
+      go (Record code) is = none 20 (changed is).type refl
+      go Unchanged is = unchanged_done d number is
+      go (Fault reason) is = absurd (faults reason is)
+      go CountApart is = no (sym (changed is).0 ∙ named-listed (type_of m) (ap names (type_kept (type_in s) s) ∙ named))
 
   -- any other message touches no order
-  pub tell_left : (number : ℕ) → (leb 21 (type_in s) && leb (type_in s) 25) ≡ false → OneOf (0 ∷ 1 ∷ 2 ∷ 6 ∷ []) (tag_of the_type e) → b ≡ rep (apply_of (view b) number s)
-  tell_left number other = go e refl
+  pub tell_left : (number : ℕ) → (leb 21 (type_in s) && leb (type_in s) 25) ≡ false
+      → ((place : ℕ) → e ≡ Renew place → ⊥) → (e ≡ Enter → ⊥) → ((code : ℕ) → e ≡ Record code → ⊥) → ((reason : ℕ) → e ≡ Fault reason → ⊥) → (e ≡ CountApart → ⊥)
+      → b ≡ rep (apply_of (view b) number s)
+  tell_left number other renews enters records faults apart = go e refl
     where
       none : {A : Type 0} {e' : Effect} → e ≡ e' → touches e' ≡ true → A
       none is on = no (sym (quiet (seen_of (view b) m) m (ap (λ (k : ℕ). leb 21 k && leb k 25) (type_kept (type_in s) s) ∙ other)) ∙ ap touches (sym d.effect ∙ is) ∙ on)
 
-      go : (e' : Effect) → e ≡ e' → OneOf (0 ∷ 1 ∷ 2 ∷ 6 ∷ []) (tag_of the_type e') → b ≡ rep (apply_of (view b) number s)
-      go Put is h = none is refl
-      go (Replace place shares price) is h = none is refl
-      go (Remove place) is h = none is refl
-      go (Renew place) is h = absurd (miss (0 ∷ 1 ∷ 2 ∷ 6 ∷ []) 3 tt h)
-      go Enter is h = absurd (miss (0 ∷ 1 ∷ 2 ∷ 6 ∷ []) 4 tt h)
-      go (Record code) is h = absurd (miss (0 ∷ 1 ∷ 2 ∷ 6 ∷ []) 5 tt h)
-      go Unchanged is h = unchanged_done d number is
-      go (Fault reason) is h = absurd (miss (0 ∷ 1 ∷ 2 ∷ 6 ∷ []) 7 tt h)
-      go CountApart is h = absurd (miss (0 ∷ 1 ∷ 2 ∷ 6 ∷ []) 8 tt h)
+      go : (e' : Effect) → e ≡ e' → b ≡ rep (apply_of (view b) number s)
+      go Put is = none is refl
+      go (Replace place shares price) is = none is refl
+      go (Remove place) is = none is refl
+      go (Renew place) is = absurd (renews place is)
+      go Enter is = absurd (enters is)
+      go (Record code) is = absurd (records code is)
+      go Unchanged is = unchanged_done d number is
+      go (Fault reason) is = absurd (faults reason is)
+      go CountApart is = absurd (apart is)
 
 -- the order that is replaced or leaves is the one that the message names
 module _ {b : Book} {s : List ℕ} {key : ℕ} {topic : List ℕ} {e : Effect} (d : Decided b s key topic e) where

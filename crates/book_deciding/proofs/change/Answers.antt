@@ -1,6 +1,7 @@
 -- The effect by the type: each arm has room for what it reads, and 25 is what is left of the types that name an order.
 -- Assumes nothing.
 use mathlib.Core.Path.{◌≡◌, refl}
+use native.Mathlib.Omega.{arith}
 use borrow.Author.Rules.{rules}
 use Rattle.message.specs.Table.{payload_of}
 use Rattle.book.proofs.Arms.{typed}
@@ -9,7 +10,7 @@ use Rattle.book_deciding.proofs.change.Goals as goal
 
 -- the type that no other arm has
 left : (c : goal.In_default) → c.u8_at-kind.result ≡ 25
-left c = last_named c.args.bytes.now c.u8_at-kind.ensures c.requires.1 c.in-22.rest.0.0.1 c.in-22.rest.0.1 c.in-22.rest.1
+left c = last_named c.args.bytes.now c.u8_at-kind.ensures c.requires.1 (omega arith) (omega arith) (omega arith)
 
 pub update-requires : goal.update-requires
 unfolding payload_of
@@ -37,4 +38,4 @@ pub returns-in-24 : goal.returns-in-24
 returns-in-24 c seen o q p = typed c.args.bytes.now seen 24 c.u8_at-kind.ensures c.in-24.is (c.execution.ensures seen o q p)
 
 pub returns-in_default : goal.returns-in_default
-returns-in_default c seen o q p = typed c.args.bytes.now seen 25 c.u8_at-kind.ensures (left c.before) (c.priced.ensures seen o q p)
+returns-in_default c seen o q p = typed c.args.bytes.now seen 25 c.u8_at-kind.ensures (last_named c.args.bytes.now c.u8_at-kind.ensures c.requires.1 (omega arith) (omega arith) (omega arith)) (c.priced.ensures seen o q p)

@@ -41,4 +41,4 @@ pub returns-in-28 : goal.returns-in-28
 returns-in-28 c seen i h u = typed c.args.bytes.now seen 28 c.u8_at-kind.ensures c.in-28.is (quiet_28 c.args.bytes.now seen)
 
 pub returns-in_default : goal.returns-in_default
-returns-in_default c seen i h u = unlisted c.args.bytes.now seen c.u8_at-kind.ensures c.requires.1 c.in-20.rest u c.unlisted.ensures
+returns-in_default c seen i h u = unlisted c.args.bytes.now seen c.u8_at-kind.ensures c.requires.1 (search rules) u c.unlisted.ensures

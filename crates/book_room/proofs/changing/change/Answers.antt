@@ -1,11 +1,14 @@
 -- A message that names an order is decided by its look-up and the order's shares and price: the order is replaced or leaves, or it
 -- is a fault.
 -- Assumes nothing.
-use mathlib.Core.Path.{ap}
+use mathlib.Core.Path.{◌≡◌, ap}
+use mathlib.Core.List.{List}
 use Prim.Native.Nat.{ℕ}
 use borrow.Author.Rules.{rules}
-use Rattle.book.specs.Applying.{message_in, topic_of}
+use Rattle.book.specs.Applying.{Seen, effect_of, message_in, topic_of}
 use Rattle.book.specs.Tables.{Book}
+use Rattle.book.specs.declared.deciding.Effect.{Effect}
+use Rattle.book.specs.declared.deciding.Effect.TheVariants.{Remove}
 use Rattle.book.proofs.Steps.{Decided, remove_within}
 use Rattle.book_room.specs.Arms.{Known}
 use Rattle.book_room.specs.Room.{Leaves}
@@ -15,52 +18,46 @@ use Rattle.book_room.proofs.Done.{changed_fault, changed_none, changed_remove, c
 use Rattle.book_room.proofs.Lying.{filled}
 use Rattle.book_room.proofs.changing.change.Goals as goal
 
-abbrev Knows : goal.After-change → ℕ → ℕ → Book → Type 0
-Knows c next end b =
-    Known c.args.room.now next end b c.args.number c.args.bytes.now
-    c.args.named c.args.shares c.args.price
+-- what is decided, by the look-up and what the order has
+module _ {room : List ℕ} {next end : ℕ} {b : Book} {number : ℕ} {s : List ℕ} {n : Name} {shares price : ℕ} (k : Known room next end b number s n shares price)
+         {e : Effect} (is : (seen : Seen) → seen.order ≡ n.order → seen.shares ≡ shares → seen.price ≡ price → e ≡ effect_of seen (message_in s)) where
+  decided : Decided b s n.key (topic_of (message_in s)) e
+  decided = decided_change s k.houses.ready.kept k.houses.ready.whole k.named k.shares k.price is
 
-decided : (c : goal.After-change) (next end : ℕ) (b : Book) → Knows c next end b
-    → Decided b c.args.bytes.now c.args.named.key (topic_of (message_in c.args.bytes.now)) c.change.result
-decided c next end b k =
-    decided_change c.args.bytes.now k.houses.ready.kept k.houses.ready.whole k.named k.shares k.price c.change.ensures
-
-leaves : (c : goal.In-Remove-2) (next end : ℕ) (b : Book) → Knows c.before.before next end b
-    → Leaves c.args.room.now next end b c.in-Remove.place
-leaves c next end b k =
-    record { filled = filled (lies k.houses); within = remove_within (decided c.before.before next end b k) c.in-Remove.is }
+  leaves : {place : ℕ} → e ≡ Remove place → Leaves room next end b place
+  leaves removes = record { filled = filled (lies k.houses); within = remove_within decided removes }
 
 pub change-requires : goal.change-requires
 change-requires c =
     let pre = c.requires in
-    (record { whole = pre.1.3.houses.ready.whole; value = ap (λ (n : Name). n.key) pre.1.3.named }, pre.0)
+    (record { whole = pre.by_index.3.houses.ready.whole; value = ap (λ (n : Name). n.key) pre.by_index.3.named }, pre.bytes_value)
 
 pub remove-last-requires : goal.remove-last-requires
 remove-last-requires c =
     let pre = c.requires.by_index in
-    (pre.0, pre.1, pre.2, leaves c.before.before pre.0 pre.1 pre.2 pre.3)
+    (pre.0, pre.1, pre.2, leaves pre.3 c.change.ensures c.in-Remove.is)
 
 pub mark-requires : goal.mark-requires
 mark-requires c = let pre = c.requires.by_index in (pre.0, pre.1, pre.2, counts pre.3.houses)
 
 pub returns-in-Replace : goal.returns-in-Replace
 returns-in-Replace c next end b k =
-    changed_replace next end c.args.number (decided c.before.before.before next end b k)
+    changed_replace next end c.args.number (decided k c.change.ensures)
     c.in-Replace.is k.houses.is
 
 pub returns-in-Remove : goal.returns-in-Remove
 returns-in-Remove c next end b k =
-    changed_remove next end c.args.number (decided c.before.before.before.before.before.before.before next end b k)
+    changed_remove next end c.args.number (decided k c.change.ensures)
     c.in-Remove.is
-    (c.remove-last.ensures next end b (leaves c.before.before.before.before.before next end b k))
+    (c.remove-last.ensures next end b (leaves k c.change.ensures c.in-Remove.is))
 
 pub returns-in-Fault : goal.returns-in-Fault
 returns-in-Fault c next end b k =
-    changed_fault next end c.args.number (decided c.before.before.before.before.before.before.before next end b k)
+    changed_fault next end c.args.number (decided k c.change.ensures)
     c.in-Fault.is (c.mark.ensures next end b (counts k.houses))
 
 pub returns-in_default : goal.returns-in_default
 returns-in_default c next end b k =
-    let d = decided c.before next end b k in
+    let d = decided k c.change.ensures in
     let number = c.args.number in
-    changed_none next end number d (change_left d number c.requires.bytes_value c.in-Replace.keys4) k.houses.is
+    changed_none next end number d (change_left d number c.requires.bytes_value c.in_default.not-Replace c.in_default.not-Remove c.in_default.not-Fault) k.houses.is

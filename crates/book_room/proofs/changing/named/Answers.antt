@@ -11,7 +11,7 @@ use Rattle.book_room.proofs.changing.named.Goals as goal
 pub key_at-key-requires : goal.key_at-key-requires
 key_at-key-requires c =
     let pre = c.requires in
-    names_room c.args.bytes.now pre.0 pre.1.1
+    names_room c.args.bytes.now pre.bytes_value pre.whole
 
 pub returns : goal.returns
 returns c next end b lies =

@@ -6,6 +6,9 @@ use Rattle.book_room.proofs.Lying.{filled, long}
 use Rattle.book_room.proofs.Writes.{apart_at, apart_done}
 use Rattle.book_room.proofs.unlisted.count_apart.Goals as goal
 
+pub bounds-room-9 : goal.bounds-room-9
+bounds-room-9 c = omega (arith, long (filled c.requires.3.lies))
+
 pub bounds-room-9-2 : goal.bounds-room-9-2
 bounds-room-9-2 c = omega (arith, long (filled c.requires.3.lies))
 
