@@ -1,24 +1,25 @@
 // What is printed: each line is put at a place of a buffer, and the place behind it answered.
-ghost use Rattle.std.specs.Prelude.{◌≤◌, length};
+ghost use Rattle.std.specs.Prelude.{◌≤◌, length, IfOk};
 
 use session::packets::Answer;
+use std::io;
 use text::{number, output};
 
 // More bytes than any line has.
 const ROOM: usize = 64;
 
 // Where the next line goes: the front, with all before it written, where it might not fit.
-pub fn place(out: &mut [u8], at: usize) -> usize
-    ensures { result ≤ length out.new }
+pub fn place(rt: &impl Print, out: &mut [u8], at: usize) -> io::Result<usize>
+    ensures { IfOk result (λ next. next ≤ length out.new) }
 {
     let size = out.len();
     if size < ROOM {
-        return size;
+        return Ok(size);
     }
     if at < size - ROOM {
-        return at;
+        return Ok(at);
     }
-    output::write(out, at)
+    output::write(rt, out, at)
 }
 
 // A number and a space.

@@ -3,7 +3,7 @@
 
 mod lines;
 
-ghost use Rattle.std.specs.Prelude.{length};
+ghost use Rattle.std.specs.Prelude.{length, IfOk};
 ghost use Rattle.session.specs.Meaning.{held, Ruled};
 ghost use Rattle.session.specs.declared.state.Session.{Session as Table};
 ghost use Rattle.capture.specs.Replays.{Replays, Strictly};
@@ -12,6 +12,7 @@ use book_room::room::Room;
 use records::HEAD;
 use session::state::Session;
 use session::{asking, packets};
+use std::io;
 use text::{input, output};
 use window::places::Window;
 
@@ -48,14 +49,15 @@ fn opened(
 
 // Takes each whole record among the bytes, and prints its line.
 fn replay(
+    rt: &impl Print,
     session: Session,
     room: &mut Room,
     window: &mut Window,
     fresh: bool,
     bytes: &[u8],
-) -> Replayed
+) -> io::Result<Replayed>
     requires { Strictly (held session room.old window.old) }
-    ensures { Replays result room.new window.new (length bytes.now) }
+    ensures { IfOk result (λ replayed. Replays replayed room.new window.new (length bytes.now)) }
 {
     let mut session = opened(session, room, window, fresh, bytes);
     let mut out = [0u8; 8192];
@@ -71,20 +73,20 @@ fn replay(
         let taken = packets::take(session, room, window, &bytes[start..at]);
         session = taken.session;
         let answer = taken.answer;
-        end = lines::place(&mut out, end);
+        end = lines::place(rt, &mut out, end)?;
         end = lines::packet(&mut out, end, asking::next(room), asking::end(room), answer);
     }
-    output::write(&out, end);
+    output::write(rt, &out, end)?;
     let unmarked = records::unmarked(bytes, at);
-    Replayed {
+    Ok(Replayed {
         session,
         at,
         unmarked,
-    }
+    })
 }
 
-fn print(text: &[u8]) {
-    io::write_all(libc::STDOUT_FILENO, text);
+fn print(rt: &impl Print, text: &[u8]) -> io::Result<()> {
+    rt.write_all(text)
 }
 
 // The number behind a run.
@@ -96,7 +98,7 @@ fn behind(start: u64, count: u64) -> u64 {
 }
 
 // A line for each run of missing numbers. 256 numbers have fewer runs than the loop has turns.
-fn gaps(room: &Room, window: &Window)
+fn gaps(rt: &impl Print, room: &Room, window: &Window) -> io::Result<()>
     requires { (session : Table) × Ruled (held session room.now window.now) }
 {
     let mut out = [0u8; 8192];
@@ -109,20 +111,21 @@ fn gaps(room: &Room, window: &Window)
         if gap.count == 0 {
             break;
         }
-        end = lines::place(&mut out, end);
+        end = lines::place(rt, &mut out, end)?;
         end = lines::gap(&mut out, end, gap.start, gap.count);
         from = behind(gap.start, gap.count);
     }
-    output::write(&out, end);
+    output::write(rt, &out, end)?;
+    Ok(())
 }
 
-fn finish(room: &Room, window: &Window, cut: bool)
+fn finish(rt: &impl Print, room: &Room, window: &Window, cut: bool) -> io::Result<()>
     requires { (session : Table) × Ruled (held session room.now window.now) }
 {
     if cut {
-        print(b"cut\n");
+        print(rt, b"cut\n")?;
     }
-    gaps(room, window);
+    gaps(rt, room, window)
 }
 
 // No record has been taken yet.
@@ -135,8 +138,9 @@ fn still(fresh: bool, at: usize) -> bool {
 
 // What is held lies between from and to. No contract of a read promises the input's end, so turns,
 // far above the reads of any run, is what the proof ends by.
-fn main() {
-    print(b"next end applied answer\n");
+fn main(rt: HostRuntime) -> io::Result<()> {
+    print(&rt, b"next end applied answer\n")?;
+    let mut input = rt.stdin();
     let mut buf = [0u8; 131072];
     let mut room = [0u64; Session::ROOM];
     let mut window = [0u8; Session::PLACES];
@@ -147,19 +151,18 @@ fn main() {
     let mut turns = u64::MAX;
     while 0 < turns {
         turns -= 1;
-        let got = input::more(&mut buf, from, to);
+        let got = input::more(&mut input, &mut buf, from, to)?;
         if got == 0 {
-            finish(&room, &window, from < to);
-            return;
+            return finish(&rt, &room, &window, from < to);
         }
         to = to - from + got;
-        let replayed = replay(session, &mut room, &mut window, fresh, &buf[0..to]);
+        let replayed = replay(&rt, session, &mut room, &mut window, fresh, &buf[0..to])?;
         session = replayed.session;
         from = replayed.at;
         fresh = still(fresh, from);
         if replayed.unmarked {
-            finish(&room, &window, true);
-            return;
+            return finish(&rt, &room, &window, true);
         }
     }
+    Ok(())
 }

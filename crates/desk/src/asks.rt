@@ -11,178 +11,180 @@ use printing::answers::{refusal, refused};
 use printing::words::{byte, bytes, digits, end, number, put, small};
 use session::asking;
 use session::state::Session;
+use std::io;
 use text::number::parse;
 use text::words::word;
 use window::asking::Asked;
 use window::places::Window;
 
 // `next`, `end`, the code and the count of faults; behind them the first fault, where there is one.
-pub fn state(room: &Room) {
-    digits(asking::next(room));
-    number(asking::end(room));
-    number(asking::code(room));
-    faults(asking::faults(room));
-    end();
+pub fn state(rt: &impl Print, room: &Room) -> io::Result<()> {
+    digits(rt, asking::next(room))?;
+    number(rt, asking::end(room))?;
+    number(rt, asking::code(room))?;
+    faults(rt, asking::faults(room))?;
+    end(rt)
 }
 
 // How many messages of a type that is not in the table were counted apart.
-pub fn unlisted(room: &Room) {
-    put(b"unlisted");
-    number(asking::unlisted(room));
-    end();
+pub fn unlisted(rt: &impl Print, room: &Room) -> io::Result<()> {
+    put(rt, b"unlisted")?;
+    number(rt, asking::unlisted(room))?;
+    end(rt)
 }
 
 // The rule of the opening for such types.
-pub fn rule(room: &Room) {
+pub fn rule(rt: &impl Print, room: &Room) -> io::Result<()> {
     match asking::rule(room) {
-        OpeningRule::Default => put(b"rule default\n"),
-        OpeningRule::Strict => put(b"rule strict\n"),
+        OpeningRule::Default => put(rt, b"rule default\n"),
+        OpeningRule::Strict => put(rt, b"rule strict\n"),
     }
 }
 
 // The lowest number not carried.
-pub fn lowest(room: &Room, window: &Window)
+pub fn lowest(rt: &impl Print, room: &Room, window: &Window) -> io::Result<()>
     requires { (session : Table) × Ruled (held session room.now window.now) }
 {
-    put(b"lowest");
-    number(asking::lowest(room, window));
-    end();
+    put(rt, b"lowest")?;
+    number(rt, asking::lowest(room, window))?;
+    end(rt)
 }
 
-fn faults(faults: Faults) {
-    number(faults.count);
+fn faults(rt: &impl Print, faults: Faults) -> io::Result<()> {
+    number(rt, faults.count)?;
     if faults.count != 0 {
-        number(faults.number);
-        number(faults.reason);
+        number(rt, faults.number)?;
+        number(rt, faults.reason)?;
     }
+    Ok(())
 }
 
-pub fn order(session: Session, room: &Room, line: &[u8])
+pub fn order(rt: &impl Print, session: Session, room: &Room, line: &[u8]) -> io::Result<()>
     requires { (window : List ℕ) × Ruled (held session room.now window) }
 {
     let id = text_of(word(line, 1));
     if !id.good {
-        return bad();
+        return bad(rt);
     }
     let text = id.text;
-    order_of(asking::order(session, room, text));
+    order_of(rt, asking::order(session, room, text))
 }
 
-fn order_of(answer: OrderReply) {
+fn order_of(rt: &impl Print, answer: OrderReply) -> io::Result<()> {
     let reply = answer.reply;
     match reply {
-        Reply::Refused(number) => refused(number),
-        Reply::Known => known(answer.order),
+        Reply::Refused(number) => refused(rt, number),
+        Reply::Known => known(rt, answer.order),
     }
 }
 
-fn known(order: Order) {
+fn known(rt: &impl Print, order: Order) -> io::Result<()> {
     let symbol = order.symbol;
     let firm = order.firm;
-    put(b"order");
-    number(order.id);
-    byte(order.side);
-    small(order.shares);
-    bytes(&symbol);
-    number(order.price);
-    bytes(&firm);
-    byte(order.unsolicited);
-    end();
+    put(rt, b"order")?;
+    number(rt, order.id)?;
+    byte(rt, order.side)?;
+    small(rt, order.shares)?;
+    bytes(rt, &symbol)?;
+    number(rt, order.price)?;
+    bytes(rt, &firm)?;
+    byte(rt, order.unsolicited)?;
+    end(rt)
 }
 
-pub fn best(session: Session, room: &Room, line: &[u8])
+pub fn best(rt: &impl Print, session: Session, room: &Room, line: &[u8]) -> io::Result<()>
     requires { (window : List ℕ) × Ruled (held session room.now window) }
 {
     let symbol = text_of(word(line, 1));
     if !symbol.good {
-        return bad();
+        return bad(rt);
     }
     let side = parse(word(line, 2), 255);
     if !side.good {
-        return bad();
+        return bad(rt);
     }
     let text = symbol.text;
-    best_of(asking::best(session, room, text, side.value as u8));
+    best_of(rt, asking::best(session, room, text, side.value as u8))
 }
 
-fn best_of(answer: BestReply) {
+fn best_of(rt: &impl Print, answer: BestReply) -> io::Result<()> {
     let reply = answer.reply;
     match reply {
-        Reply::Refused(number) => refused(number),
+        Reply::Refused(number) => refused(rt, number),
         Reply::Known => {
             let level = answer.level;
-            put(b"best");
-            number(level.price);
-            number(level.shares);
-            number(level.orders);
-            end();
+            put(rt, b"best")?;
+            number(rt, level.price)?;
+            number(rt, level.shares)?;
+            number(rt, level.orders)?;
+            end(rt)
         }
     }
 }
 
-pub fn inside(room: &Room, line: &[u8])
+pub fn inside(rt: &impl Print, room: &Room, line: &[u8]) -> io::Result<()>
     requires { (session : Table) × (window : List ℕ) × Ruled (held session room.now window) }
 {
     let symbol = text_of(word(line, 1));
     if !symbol.good {
-        return bad();
+        return bad(rt);
     }
     let text = symbol.text;
-    inside_of(asking::inside(room, text));
+    inside_of(rt, asking::inside(room, text))
 }
 
-fn inside_of(answer: InsideReply) {
+fn inside_of(rt: &impl Print, answer: InsideReply) -> io::Result<()> {
     let reply = answer.reply;
     match reply {
-        Reply::Refused(number) => refused(number),
-        Reply::Known => known_inside(answer.inside),
+        Reply::Refused(number) => refused(rt, number),
+        Reply::Known => known_inside(rt, answer.inside),
     }
 }
 
-fn known_inside(inside: Inside) {
-    put(b"inside");
-    number(inside.time);
-    number(inside.ask);
-    number(inside.askvolume);
-    number(inside.bid);
-    number(inside.bidvolume);
-    byte(inside.unsolicited);
-    end();
+fn known_inside(rt: &impl Print, inside: Inside) -> io::Result<()> {
+    put(rt, b"inside")?;
+    number(rt, inside.time)?;
+    number(rt, inside.ask)?;
+    number(rt, inside.askvolume)?;
+    number(rt, inside.bid)?;
+    number(rt, inside.bidvolume)?;
+    byte(rt, inside.unsolicited)?;
+    end(rt)
 }
 
-pub fn requests(room: &Room, window: &Window, line: &[u8])
+pub fn requests(rt: &impl Print, room: &Room, window: &Window, line: &[u8]) -> io::Result<()>
     requires { (session : Table) × Ruled (held session room.now window.now) }
 {
     let size = parse(word(line, 1), 2048);
     if !size.good {
-        return bad();
+        return bad(rt);
     }
-    requests_in(room, window, size.value as usize);
+    requests_in(rt, room, window, size.value as usize)
 }
 
-fn requests_in(room: &Room, window: &Window, size: usize)
+fn requests_in(rt: &impl Print, room: &Room, window: &Window, size: usize) -> io::Result<()>
     requires ruled { (session : Table) × Ruled (held session room.now window.now) }
     requires size_bound { size ≤ 2048 }
 {
     let mut buffer = [0xEEu8; 2048];
-    requested(room, window, &mut buffer[0..size]);
+    requested(rt, room, window, &mut buffer[0..size])
 }
 
 // The answer, then the buffer whole.
-fn requested(room: &Room, window: &Window, buffer: &mut [u8])
+fn requested(rt: &impl Print, room: &Room, window: &Window, buffer: &mut [u8]) -> io::Result<()>
     requires { (session : Table) × Ruled (held session room.now window.now) }
 {
-    asked(asking::requests(room, window, buffer));
-    bytes(buffer);
-    end();
+    asked(rt, asking::requests(room, window, buffer))?;
+    bytes(rt, buffer)?;
+    end(rt)
 }
 
-fn asked(said: Asked) {
+fn asked(rt: &impl Print, said: Asked) -> io::Result<()> {
     match said {
-        Asked::Refused(number) => refusal(number),
+        Asked::Refused(number) => refusal(rt, number),
         Asked::Count(count) => {
-            put(b"requests");
-            number(count as u64);
+            put(rt, b"requests")?;
+            number(rt, count as u64)
         }
     }
 }

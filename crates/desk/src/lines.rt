@@ -1,8 +1,10 @@
 // The lines of standard input.
-ghost use Rattle.std.specs.Prelude.{◌≡◌, ◌+◌, ◌-◌, ◌≤◌, length};
+ghost use Rattle.std.specs.Prelude.{◌≡◌, ◌+◌, ◌-◌, ◌≤◌, length, IfOk};
 ghost use Rattle.desk.specs.Commands.{is_none};
 ghost use Rattle.desk.specs.Lines.{Lies};
 
+use std::io;
+use std::io::Read;
 use text::input;
 
 // The longest line, its line feed not counted.
@@ -118,12 +120,18 @@ pub fn is_none(kind: Kind) -> bool
 
 // The next line, where the buffer holds what stands between from and to. turns is far above the
 // reads of any run; the proof ends by it.
-pub fn next(buf: &mut [u8], from: usize, to: usize, ended: bool) -> Line
+pub fn next(
+    input: &mut impl Read,
+    buf: &mut [u8],
+    from: usize,
+    to: usize,
+    ended: bool,
+) -> io::Result<Line>
     requires { (from ≤ to) × (to ≤ length buf.old) }
-    ensures { Lies result (length buf.new) }
+    ensures { IfOk result (λ line. Lies line (length buf.new)) }
 {
     if ended {
-        return rest(false, 0);
+        return Ok(rest(false, 0));
     }
     let mut first = from;
     let mut last = to;
@@ -133,16 +141,16 @@ pub fn next(buf: &mut [u8], from: usize, to: usize, ended: bool) -> Line
         turns -= 1;
         let stop = feed(buf, first, last);
         if stop < last {
-            return found(long, first, stop, last);
+            return Ok(found(long, first, stop, last));
         }
         long = is_long(long, last - first);
         let kept = kept_of(long, last - first);
-        let got = input::more(buf, last - kept, last);
+        let got = input::more(input, buf, last - kept, last)?;
         if got == 0 {
-            return rest(long, kept);
+            return Ok(rest(long, kept));
         }
         first = 0;
         last = kept + got;
     }
-    rest(false, 0)
+    Ok(rest(false, 0))
 }

@@ -3,6 +3,7 @@ ghost use Rattle.desk.specs.Commands.{TextOf};
 
 use printing::answers;
 use printing::words::put;
+use std::io;
 use text::hex;
 use text::words::word;
 
@@ -10,8 +11,8 @@ use text::words::word;
 pub const LENT: usize = 4096;
 
 // The answer to a line that is no command.
-pub fn bad() {
-    put(b"bad\n");
+pub fn bad(rt: &impl Print) -> io::Result<()> {
+    put(rt, b"bad\n")
 }
 
 // An id or a symbol, where a word is one.
@@ -32,31 +33,31 @@ pub fn text_of(word: &[u8]) -> Text
     }
 }
 
-pub fn value(line: &[u8]) {
+pub fn value(rt: &impl Print, line: &[u8]) -> io::Result<()> {
     let id = text_of(word(line, 1));
     if !id.good {
-        return bad();
+        return bad(rt);
     }
     let text = id.text;
-    answers::value(fields::id::value(text));
+    answers::value(rt, fields::id::value(text))
 }
 
-pub fn header(line: &[u8]) {
+pub fn header(rt: &impl Print, line: &[u8]) -> io::Result<()> {
     let mut lent = [0u8; LENT];
     let got = hex::parse(word(line, 1), &mut lent);
     if !got.good {
-        return bad();
+        return bad(rt);
     }
     let count = got.count;
-    answers::header(packet::read_header(&lent[0..count]));
+    answers::header(rt, packet::read_header(&lent[0..count]))
 }
 
-pub fn message(line: &[u8]) {
+pub fn message(rt: &impl Print, line: &[u8]) -> io::Result<()> {
     let mut lent = [0u8; LENT];
     let got = hex::parse(word(line, 1), &mut lent);
     if !got.good {
-        return bad();
+        return bad(rt);
     }
     let count = got.count;
-    answers::message(message_read::read(&lent[0..count]), false);
+    answers::message(rt, message_read::read(&lent[0..count]), false)
 }

@@ -13,161 +13,179 @@ use session::asking;
 use session::packets::Answer;
 use session::state::Session;
 use session_keeping::keeping::Kept;
+use std::io;
 use window::places::Window;
 
 // The answer to a packet, then next and end.
-pub fn taken(label: &[u8], room: &Room, said: Answer) {
-    put(label);
-    colon();
-    answer(said);
-    numbers(room);
-    end();
+pub fn taken(rt: &impl Print, label: &[u8], room: &Room, said: Answer) -> io::Result<()> {
+    put(rt, label)?;
+    colon(rt)?;
+    answer(rt, said)?;
+    numbers(rt, room)?;
+    end(rt)
 }
 
-fn answer(answer: Answer) {
+fn answer(rt: &impl Print, answer: Answer) -> io::Result<()> {
     match answer {
-        Answer::Applied(count) => told(b"applied", count),
-        Answer::Refused(number) => refusal(number),
+        Answer::Applied(count) => told(rt, b"applied", count),
+        Answer::Refused(number) => refusal(rt, number),
     }
 }
 
-fn told(name: &[u8], count: u64) {
-    put(name);
-    number(count);
+fn told(rt: &impl Print, name: &[u8], count: u64) -> io::Result<()> {
+    put(rt, name)?;
+    number(rt, count)
 }
 
 // The answer to a packet that is kept, then next, end and lowest.
-pub fn kept(label: &[u8], room: &Room, window: &Window, said: Kept)
+pub fn kept(
+    rt: &impl Print,
+    label: &[u8],
+    room: &Room,
+    window: &Window,
+    said: Kept,
+) -> io::Result<()>
     requires { (session : Table) × Ruled (held session room.now window.now) }
 {
-    put(label);
-    colon();
+    put(rt, label)?;
+    colon(rt)?;
     match said {
-        Kept::Fresh(count) => told(b"kept", count),
-        Kept::Refused(number) => refusal(number),
+        Kept::Fresh(count) => told(rt, b"kept", count)?,
+        Kept::Refused(number) => refusal(rt, number)?,
     }
-    waiting(room, window);
+    waiting(rt, room, window)
 }
 
 // How many were applied of those that waited, then the same.
-pub fn applied(label: &[u8], room: &Room, window: &Window, count: u64)
+pub fn applied(
+    rt: &impl Print,
+    label: &[u8],
+    room: &Room,
+    window: &Window,
+    count: u64,
+) -> io::Result<()>
     requires { (session : Table) × Ruled (held session room.now window.now) }
 {
-    put(label);
-    colon();
-    told(b"applied", count);
-    waiting(room, window);
+    put(rt, label)?;
+    colon(rt)?;
+    told(rt, b"applied", count)?;
+    waiting(rt, room, window)
 }
 
-fn waiting(room: &Room, window: &Window)
+fn waiting(rt: &impl Print, room: &Room, window: &Window) -> io::Result<()>
     requires { (session : Table) × Ruled (held session room.now window.now) }
 {
-    numbers(room);
-    told(b", lowest", asking::lowest(room, window));
-    end();
+    numbers(rt, room)?;
+    told(rt, b", lowest", asking::lowest(room, window))?;
+    end(rt)
 }
 
-pub fn numbers(room: &Room) {
-    told(b", next", asking::next(room));
-    told(b", end", asking::end(room));
+pub fn numbers(rt: &impl Print, room: &Room) -> io::Result<()> {
+    told(rt, b", next", asking::next(room))?;
+    told(rt, b", end", asking::end(room))
 }
 
 // What the tables say: faults, the first order, the best bid and ask, the first inside.
-pub fn report(session: Session, room: &Room)
+pub fn report(rt: &impl Print, session: Session, room: &Room) -> io::Result<()>
     requires { (window : List ℕ) × Ruled (held session room.now window) }
 {
-    colon();
-    orders(session, room);
-    inside(asking::inside(room, made::symbol_of(0)));
+    colon(rt)?;
+    orders(rt, session, room)?;
+    inside(rt, asking::inside(room, made::symbol_of(0)))
 }
 
-fn orders(session: Session, room: &Room)
+fn orders(rt: &impl Print, session: Session, room: &Room) -> io::Result<()>
     requires { (window : List ℕ) × Ruled (held session room.now window) }
 {
-    faults(asking::faults(room));
-    order(asking::order(session, room, made::id_of(0)));
-    best(asking::best(session, room, *b"MSFTF         ", b'B'));
-    best(asking::best(session, room, *b"MSFTF         ", b'S'));
+    faults(rt, asking::faults(room))?;
+    order(rt, asking::order(session, room, made::id_of(0)))?;
+    best(rt, asking::best(session, room, *b"MSFTF         ", b'B'))?;
+    best(rt, asking::best(session, room, *b"MSFTF         ", b'S'))
 }
 
-fn faults(faults: Faults) {
-    put(b"faults");
-    number(faults.count);
+fn faults(rt: &impl Print, faults: Faults) -> io::Result<()> {
+    put(rt, b"faults")?;
+    number(rt, faults.count)?;
     if faults.count != 0 {
-        put(b", first");
-        number(faults.number);
-        put(b" by");
-        number(faults.reason);
+        put(rt, b", first")?;
+        number(rt, faults.number)?;
+        put(rt, b" by")?;
+        number(rt, faults.reason)?;
     }
+    Ok(())
 }
 
 // Whether there is an answer; else its refusal is printed.
-fn known(reply: Reply) -> bool {
+fn known(rt: &impl Print, reply: Reply) -> io::Result<bool> {
     match reply {
-        Reply::Known => true,
+        Reply::Known => Ok(true),
         Reply::Refused(number) => {
-            put(b" ");
-            refusal(number);
-            false
+            put(rt, b" ")?;
+            refusal(rt, number)?;
+            Ok(false)
         }
     }
 }
 
-fn order(answer: OrderReply) {
-    put(b"; order");
+fn order(rt: &impl Print, answer: OrderReply) -> io::Result<()> {
+    put(rt, b"; order")?;
     let reply = answer.reply;
-    if known(reply) {
+    if known(rt, reply)? {
         let order = answer.order;
-        small(order.shares);
-        number(order.price);
+        small(rt, order.shares)?;
+        number(rt, order.price)?;
     }
+    Ok(())
 }
 
-fn best(answer: BestReply) {
-    put(b"; best");
+fn best(rt: &impl Print, answer: BestReply) -> io::Result<()> {
+    put(rt, b"; best")?;
     let reply = answer.reply;
-    if known(reply) {
+    if known(rt, reply)? {
         let level = answer.level;
-        number(level.price);
-        number(level.shares);
-        number(level.orders);
+        number(rt, level.price)?;
+        number(rt, level.shares)?;
+        number(rt, level.orders)?;
     }
+    Ok(())
 }
 
-fn inside(answer: InsideReply) {
-    put(b"; inside");
+fn inside(rt: &impl Print, answer: InsideReply) -> io::Result<()> {
+    put(rt, b"; inside")?;
     let reply = answer.reply;
-    if known(reply) {
+    if known(rt, reply)? {
         let inside = answer.inside;
-        number(inside.ask);
-        number(inside.bid);
+        number(rt, inside.ask)?;
+        number(rt, inside.bid)?;
     }
+    Ok(())
 }
 
 // The rule for types that are not in the table, how many such messages were counted apart, and whether
 // the book is doubtful.
-pub fn unlisted(room: &Room) {
-    rule(asking::rule(room));
-    told(b", unlisted", asking::unlisted(room));
+pub fn unlisted(rt: &impl Print, room: &Room) -> io::Result<()> {
+    rule(rt, asking::rule(room))?;
+    told(rt, b", unlisted", asking::unlisted(room))?;
     if asking::doubtful(room) {
-        put(b", doubtful");
+        put(rt, b", doubtful")?;
     }
+    Ok(())
 }
 
-fn rule(rule: OpeningRule) {
+fn rule(rt: &impl Print, rule: OpeningRule) -> io::Result<()> {
     match rule {
-        OpeningRule::Default => put(b": rule default"),
-        OpeningRule::Strict => put(b": rule strict"),
+        OpeningRule::Default => put(rt, b": rule default"),
+        OpeningRule::Strict => put(rt, b": rule strict"),
     }
 }
 
-pub fn code(room: &Room) {
-    told(b": code", asking::code(room));
+pub fn code(rt: &impl Print, room: &Room) -> io::Result<()> {
+    told(rt, b": code", asking::code(room))
 }
 
 // The lowest number not carried.
-pub fn lowest(room: &Room, window: &Window)
+pub fn lowest(rt: &impl Print, room: &Room, window: &Window) -> io::Result<()>
     requires { (session : Table) × Ruled (held session room.now window.now) }
 {
-    told(b": lowest", asking::lowest(room, window));
+    told(rt, b": lowest", asking::lowest(room, window))
 }

@@ -7,23 +7,24 @@ use printing::words::{end, number, put};
 use session::packets;
 use session::packets::Count;
 use session::state::Session;
+use std::io;
 
-pub fn run() {
-    burst(b"burst of three, 12 numbers: ", 12);
-    burst(b"burst of three, 11 numbers: ", 11);
+pub fn run(rt: &impl Print) -> io::Result<()> {
+    burst(rt, b"burst of three, 12 numbers: ", 12)?;
+    burst(rt, b"burst of three, 11 numbers: ", 11)
 }
 
 // The answers to three packets in the first `size` numbers of a list of 7.
-fn burst(label: &[u8], size: usize) {
+fn burst(rt: &impl Print, label: &[u8], size: usize) -> io::Result<()> {
     let packets = three();
     let mut list = [7u64; 12];
-    put(label);
-    answered(&packets, &mut list, size);
-    listed(&list);
-    end();
+    put(rt, label)?;
+    answered(rt, &packets, &mut list, size)?;
+    listed(rt, &list)?;
+    end(rt)
 }
 
-fn answered(packets: &[u8], list: &mut [u64], size: usize) {
+fn answered(rt: &impl Print, packets: &[u8], list: &mut [u64], size: usize) -> io::Result<()> {
     if size <= list.len() {
         let mut room = [0u64; Session::ROOM];
         let mut window = [0u8; Session::PLACES];
@@ -37,9 +38,10 @@ fn answered(packets: &[u8], list: &mut [u64], size: usize) {
             &mut list[0..size],
         );
         let count = taken.count;
-        counted(count);
-        answers::numbers(&room);
+        counted(rt, count)?;
+        answers::numbers(rt, &room)?;
     }
+    Ok(())
 }
 
 // An order in a packet in order, the same in one too far ahead, and a heartbeat, each behind its length.
@@ -53,21 +55,22 @@ fn three() -> [u8; 152]
     \x00\x0C\x00\x0C\x00\x00\x00\x0C\x01\x00\x04J\xA2\x00"
 }
 
-fn counted(count: Count) {
+fn counted(rt: &impl Print, count: Count) -> io::Result<()> {
     match count {
         Count::Packets(n) => {
-            put(b"packets");
-            number(n as u64);
+            put(rt, b"packets")?;
+            number(rt, n as u64)
         }
-        Count::Refused(number) => refusal(number),
+        Count::Refused(number) => refusal(rt, number),
     }
 }
 
-fn listed(list: &[u64]) {
-    put(b", list");
+fn listed(rt: &impl Print, list: &[u64]) -> io::Result<()> {
+    put(rt, b", list")?;
     let mut k = 0;
     while k < list.len() {
-        number(list[k]);
+        number(rt, list[k])?;
         k += 1;
     }
+    Ok(())
 }

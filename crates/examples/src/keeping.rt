@@ -1,4 +1,5 @@
 // The commands that keep packets and apply what waits: the taking of a packet in its two halves.
+ghost use Rattle.std.specs.Prelude.{IfOk};
 ghost use Rattle.session.specs.Meaning.{held, Ruled};
 
 use crate::made::told;
@@ -10,50 +11,79 @@ use message::Message;
 use session::packets;
 use session::state::Session;
 use session_keeping::keeping;
+use std::io;
 use window::places::Window;
 
 // By the first letter: apply, keep.
-pub fn step(session: Session, room: &mut Room, window: &mut Window, n: u32, line: &[u8]) -> Session
+pub fn step(
+    rt: &impl Print,
+    session: Session,
+    room: &mut Room,
+    window: &mut Window,
+    n: u32,
+    line: &[u8],
+) -> io::Result<Session>
     requires { Ruled (held session room.old window.old) }
-    ensures { Ruled (held result room.new window.new) }
+    ensures { IfOk result (λ next. Ruled (held next room.new window.new)) }
 {
     match rows::letter(line, 0) {
-        b'a' => applied(session, room, window, line),
-        _ => kept(session, room, window, n, line),
+        b'a' => applied(rt, session, room, window, line),
+        _ => kept(rt, session, room, window, n, line),
     }
 }
 
 // Up to a count of what waits applied, and the answer where the line has a label.
-fn applied(session: Session, room: &mut Room, window: &mut Window, line: &[u8]) -> Session
+fn applied(
+    rt: &impl Print,
+    session: Session,
+    room: &mut Room,
+    window: &mut Window,
+    line: &[u8],
+) -> io::Result<Session>
     requires { Ruled (held session room.old window.old) }
-    ensures { Ruled (held result room.new window.new) }
+    ensures { IfOk result (λ next. Ruled (held next room.new window.new)) }
 {
     let done = packets::apply(session, room, window, number(line, 1));
     let label = rows::label(line);
     if label.len() != 0 {
-        answers::applied(label, room, window, done.count);
+        answers::applied(rt, label, room, window, done.count)?;
     }
-    done.session
+    Ok(done.session)
 }
 
 // A message kept, with no answer.
-pub fn then(session: Session, room: &mut Room, window: &mut Window, seq: u32, m: Message) -> Session
+pub fn then(
+    rt: &impl Print,
+    session: Session,
+    room: &mut Room,
+    window: &mut Window,
+    seq: u32,
+    m: Message,
+) -> io::Result<Session>
     requires { Ruled (held session room.old window.old) }
-    ensures { Ruled (held result room.new window.new) }
+    ensures { IfOk result (λ next. Ruled (held next room.new window.new)) }
 {
-    sent(session, room, window, seq, m, made::none(), b"")
+    sent(rt, session, room, window, seq, m, made::none(), b"")
 }
 
 // A heartbeat, or one message or two.
-fn kept(session: Session, room: &mut Room, window: &mut Window, n: u32, line: &[u8]) -> Session
+fn kept(
+    rt: &impl Print,
+    session: Session,
+    room: &mut Room,
+    window: &mut Window,
+    n: u32,
+    line: &[u8],
+) -> io::Result<Session>
     requires { Ruled (held session room.old window.old) }
-    ensures { Ruled (held result room.new window.new) }
+    ensures { IfOk result (λ next. Ruled (held next room.new window.new)) }
 {
     let label = rows::label(line);
     if rows::letter(line, 2) == b'b' {
-        beat(session, room, window, n, label)
+        beat(rt, session, room, window, n, label)
     } else {
         sent(
+            rt,
             session,
             room,
             window,
@@ -65,16 +95,24 @@ fn kept(session: Session, room: &mut Room, window: &mut Window, n: u32, line: &[
     }
 }
 
-fn beat(session: Session, room: &mut Room, window: &mut Window, seq: u32, label: &[u8]) -> Session
+fn beat(
+    rt: &impl Print,
+    session: Session,
+    room: &mut Room,
+    window: &mut Window,
+    seq: u32,
+    label: &[u8],
+) -> io::Result<Session>
     requires { Ruled (held session room.old window.old) }
-    ensures { Ruled (held result room.new window.new) }
+    ensures { IfOk result (λ next. Ruled (held next room.new window.new)) }
 {
     let mut buf = [0u8; 12];
     made::head(&mut buf, 12, seq, 1, 0);
-    handed(session, room, window, &buf, label)
+    handed(rt, session, room, window, &buf, label)
 }
 
 fn sent(
+    rt: &impl Print,
     session: Session,
     room: &mut Room,
     window: &mut Window,
@@ -82,29 +120,30 @@ fn sent(
     first: Message,
     second: Message,
     label: &[u8],
-) -> Session
+) -> io::Result<Session>
     requires { Ruled (held session room.old window.old) }
-    ensures { Ruled (held result room.new window.new) }
+    ensures { IfOk result (λ next. Ruled (held next room.new window.new)) }
 {
     let mut buf = [0u8; 256];
     let size = made::packet_of(&mut buf, seq, first, second);
-    handed(session, room, window, &buf[0..size], label)
+    handed(rt, session, room, window, &buf[0..size], label)
 }
 
 // A packet kept beside the tables, which stay, and the answer where there is a label.
 fn handed(
+    rt: &impl Print,
     session: Session,
     room: &mut Room,
     window: &mut Window,
     packet: &[u8],
     label: &[u8],
-) -> Session
+) -> io::Result<Session>
     requires { Ruled (held session room.old window.old) }
-    ensures { Ruled (held result room.new window.new) }
+    ensures { IfOk result (λ next. Ruled (held next room.new window.new)) }
 {
     let said = keeping::keep(room, window, packet);
     if label.len() != 0 {
-        answers::kept(label, room, window, said);
+        answers::kept(rt, label, room, window, said)?;
     }
-    session
+    Ok(session)
 }

@@ -1,5 +1,5 @@
 // Messages and packets made for the cases.
-ghost use Rattle.std.specs.Prelude.{◌≡◌, ◌≤◌, length};
+ghost use Rattle.std.specs.Prelude.{◌≡◌, ◌≤◌, length, IfOk};
 ghost use Rattle.session.specs.Meaning.{held, Ruled};
 ghost use Rattle.session.specs.declared.state.Session.{Session as Table};
 ghost use Rattle.examples.specs.Made.{add_of, delete_of, execution_of, id_of, message_by, named_of, no_message, symbol_of, told_of, top_of, trading_of, update_of};
@@ -13,6 +13,7 @@ use packet::Header;
 use session::packets;
 use session::packets::Taken;
 use session::state::Session;
+use std::io;
 use window::places::Window;
 
 // The id of the k-th order: its value is below 1,000 in base 36 with decimal digits.
@@ -276,17 +277,23 @@ pub fn strict(room: &mut Room, window: &mut Window, number: u32) -> Session
 }
 
 // One with so many orders, so many that wait, or so many insides, a packet each.
-pub fn filled(room: &mut Room, window: &mut Window, kind: u8, count: u16) -> Session
+pub fn filled(
+    rt: &impl Print,
+    room: &mut Room,
+    window: &mut Window,
+    kind: u8,
+    count: u16,
+) -> io::Result<Session>
     requires { (session : Table) × Ruled (held session room.old window.old) }
-    ensures { Ruled (held result room.new window.new) }
+    ensures { IfOk result (λ next. Ruled (held next room.new window.new)) }
 {
     let mut session = fresh(room, window, 1);
     let mut k: u16 = 0;
     while k < count {
-        session = nth(session, room, window, kind, k);
+        session = nth(rt, session, room, window, kind, k)?;
         k += 1;
     }
-    session
+    Ok(session)
 }
 
 fn then(session: Session, room: &mut Room, window: &mut Window, seq: u32, m: Message) -> Session
@@ -298,15 +305,22 @@ fn then(session: Session, room: &mut Room, window: &mut Window, seq: u32, m: Mes
 }
 
 // By the first letter of a kind: add, keep, top.
-fn nth(session: Session, room: &mut Room, window: &mut Window, kind: u8, k: u16) -> Session
+fn nth(
+    rt: &impl Print,
+    session: Session,
+    room: &mut Room,
+    window: &mut Window,
+    kind: u8,
+    k: u16,
+) -> io::Result<Session>
     requires { Ruled (held session room.old window.old) }
-    ensures { Ruled (held result room.new window.new) }
+    ensures { IfOk result (λ next. Ruled (held next room.new window.new)) }
 {
     let seq = k as u32 + 1;
     match kind {
-        b'a' => then(session, room, window, seq, add(k, b'B', 300, 1250000)),
-        b'k' => keeping::then(session, room, window, seq, add(k, b'B', 300, 1250000)),
-        _ => then(session, room, window, seq, top(k, 1260000, 1250000)),
+        b'a' => Ok(then(session, room, window, seq, add(k, b'B', 300, 1250000))),
+        b'k' => keeping::then(rt, session, room, window, seq, add(k, b'B', 300, 1250000)),
+        _ => Ok(then(session, room, window, seq, top(k, 1260000, 1250000))),
     }
 }
 

@@ -10,15 +10,17 @@ mod sessions;
 mod unlisted;
 mod waiting;
 
-fn main() {
-    examples_cases::ids::run();
-    examples_cases::headers::run();
-    examples_cases::messages::run();
-    examples_cases::sweeps::run();
-    examples_cases::writes::run();
-    sessions::run();
-    waiting::run();
-    unlisted::run();
-    bursts::run();
-    examples_cases::walks::run();
+use std::io;
+
+fn main(rt: HostRuntime) -> io::Result<()> {
+    examples_cases::ids::run(&rt)?;
+    examples_cases::headers::run(&rt)?;
+    examples_cases::messages::run(&rt)?;
+    examples_cases::sweeps::run(&rt)?;
+    examples_cases::writes::run(&rt)?;
+    sessions::run(&rt)?;
+    waiting::run(&rt)?;
+    unlisted::run(&rt)?;
+    bursts::run(&rt)?;
+    examples_cases::walks::run(&rt)
 }

@@ -1,6 +1,7 @@
 // Packets handed to a session: what they do to its tables, which are refused, what waits, and what is
 // asked for again. A line goes on with the session that the line before it left, and one with no label
 // prints nothing.
+ghost use Rattle.std.specs.Prelude.{IfOk};
 ghost use Rattle.session.specs.Meaning.{held, Ruled};
 ghost use Rattle.session.specs.declared.state.Session.{Session as Table};
 
@@ -14,22 +15,24 @@ use printing::words::{bytes, colon, end, put};
 use session::asking;
 use session::packets::Taken;
 use session::state::Session;
+use std::io;
 use window::asking::Asked;
 use window::places::Window;
 
-pub fn run() {
-    executions();
-    orders();
-    broken();
-    bests();
-    full();
-    numbers();
-    copies();
-    missing();
+pub fn run(rt: &impl Print) -> io::Result<()> {
+    executions(rt)?;
+    orders(rt)?;
+    broken(rt)?;
+    bests(rt)?;
+    full(rt)?;
+    numbers(rt)?;
+    copies(rt)?;
+    missing(rt)
 }
 
-fn executions() {
+fn executions(rt: &impl Print) -> io::Result<()> {
     lines(
+        rt,
         b"| open 1\n\
         | take 1 add 0 B 300 1250000 executed 0 - 500 0\n\
         P9 order of 300, executed 500 | report\n\
@@ -52,11 +55,12 @@ fn executions() {
         | take 1 add 0 B 300 1250000 executed 0 - 500 0\n\
         | take 3 executed 0 - 100 199 add 0 B 300 1250000\n\
         the first fault stays | report\n",
-    );
+    )
 }
 
-fn orders() {
+fn orders(rt: &impl Print) -> io::Result<()> {
     lines(
+        rt,
         b"| open 1\n\
         | take 1 add 0 B 300 1250000 add 0 S 100 1\n\
         Add of a live order | report\n\
@@ -79,12 +83,13 @@ fn orders() {
         | take 1 add 1 B 50 1 add 0 B 300 1250000\n\
         | take 3 delete 1\n\
         the last order takes a freed place | report\n",
-    );
+    )
 }
 
 // A message with one byte of its packet changed: what no writer would write.
-fn broken() {
+fn broken(rt: &impl Print) -> io::Result<()> {
     lines(
+        rt,
         b"| strict 1\n\
         | take 1 add 0 B 300 1250000\n\
         | damage 2 14 74 delete 0\n\
@@ -104,11 +109,12 @@ fn broken() {
         | take 1 add 0 B 300 1250000\n\
         | damage 2 32 97 delete 0\n\
         Delete with other last characters | report\n",
-    );
+    )
 }
 
-fn bests() {
+fn bests(rt: &impl Print) -> io::Result<()> {
     lines(
+        rt,
         b"| open 1\n\
         | take 1 add 0 B 300 1250000 add 1 B 200 1250000\n\
         | take 3 add 2 B 900 1240000\n\
@@ -121,11 +127,12 @@ fn bests() {
         an inside, then another for its symbol | report\n\
         | open 1\n\
         nothing applied | report\n",
-    );
+    )
 }
 
-fn full() {
+fn full(rt: &impl Print) -> io::Result<()> {
     lines(
+        rt,
         b"| fill 256 add\n\
         256 live orders | report\n\
         | take 257 add 256 B 1 1\n\
@@ -143,11 +150,12 @@ fn full() {
         | fill 64 top\n\
         | take 65 top 0 - 1280000 1240000\n\
         with 64 insides, the first again | report\n",
-    );
+    )
 }
 
-fn numbers() {
+fn numbers(rt: &impl Print) -> io::Result<()> {
     lines(
+        rt,
         b"| open 1000\n\
         P7 opened at 1,000, number 1,255 | take 1255 add 0 B 300 1250000\n\
         P7 gap from 1,000 | gap 1000\n\
@@ -162,13 +170,14 @@ fn numbers() {
         opened at 10, heartbeat 12 (end moves) | beat 12\n\
         then number 10 (the heartbeat used up none) | take 10 add 0 B 300 1250000\n\
         then heartbeat 11 (end stays) | beat 11\n",
-    );
+    )
 }
 
 // The order that is told again would be a fault if it were applied again. The copies of 12 differ in
 // the last byte of the quantity. The execution is a fault before its order.
-fn copies() {
+fn copies(rt: &impl Print) -> io::Result<()> {
     lines(
+        rt,
         b"| open 10\n\
         opened at 10, number 10 | take 10 add 0 B 300 1250000\n\
         then numbers 10 and 11 (half of it old) | take 10 add 0 B 300 1250000 add 1 B 300 1250000\n\
@@ -186,11 +195,12 @@ fn copies() {
         opened | code\n\
         | take 10 session 5\n\
         then Trading Session 5 | code\n",
-    );
+    )
 }
 
-fn missing() {
+fn missing(rt: &impl Print) -> io::Result<()> {
     lines(
+        rt,
         b"| open 10\n\
         P12 opened at 10, numbers 12 and 13 | take 12 add 0 B 300 1250000 add 1 B 300 1250000\n\
         P12 requests | write 24\n\
@@ -206,61 +216,87 @@ fn missing() {
         gap from the largest number | gap 18446744073709551615\n\
         requests of two gaps | write 24\n\
         requests of two gaps, one byte too few | write 23\n",
-    );
+    )
 }
 
 // Each line in turn.
-pub fn lines(table: &[u8]) {
+pub fn lines(rt: &impl Print, table: &[u8]) -> io::Result<()> {
     let mut room = [0u64; Session::ROOM];
     let mut window = [0u8; Session::PLACES];
     let mut session = Session::open(0, &mut room, &mut window);
     let mut from = 0;
     while from < table.len() {
         let stop = rows::find(table, from, b'\n');
-        session = step(session, &mut room, &mut window, &table[from..stop]);
+        session = step(rt, session, &mut room, &mut window, &table[from..stop])?;
         from = stop + 1;
     }
+    Ok(())
 }
 
 // By the first letter: open, by default or strictly, fill, a packet, what is kept and applied, or a question.
-fn step(session: Session, room: &mut Room, window: &mut Window, line: &[u8]) -> Session
+fn step(
+    rt: &impl Print,
+    session: Session,
+    room: &mut Room,
+    window: &mut Window,
+    line: &[u8],
+) -> io::Result<Session>
     requires { Ruled (held session room.old window.old) }
-    ensures { Ruled (held result room.new window.new) }
+    ensures { IfOk result (λ next. Ruled (held next room.new window.new)) }
 {
     let n = (number(line, 1) % 4294967296) as u32;
     match rows::letter(line, 0) {
-        b'o' => made::fresh(room, window, n),
-        b's' => made::strict(room, window, n),
-        b'f' => filled(room, window, n, line),
-        b't' | b'e' | b'd' | b'b' => took(session, room, window, n, line),
-        b'k' | b'a' => keeping::step(session, room, window, n, line),
+        b'o' => Ok(made::fresh(room, window, n)),
+        b's' => Ok(made::strict(room, window, n)),
+        b'f' => filled(rt, room, window, n, line),
+        b't' | b'e' | b'd' | b'b' => took(rt, session, room, window, n, line),
+        b'k' | b'a' => keeping::step(rt, session, room, window, n, line),
         _ => {
-            question(session, room, window, line);
-            session
+            question(rt, session, room, window, line)?;
+            Ok(session)
         }
     }
 }
 
 // So many of a kind.
-fn filled(room: &mut Room, window: &mut Window, count: u32, line: &[u8]) -> Session
+fn filled(
+    rt: &impl Print,
+    room: &mut Room,
+    window: &mut Window,
+    count: u32,
+    line: &[u8],
+) -> io::Result<Session>
     requires { (session : Table) × Ruled (held session room.old window.old) }
-    ensures { Ruled (held result room.new window.new) }
+    ensures { IfOk result (λ next. Ruled (held next room.new window.new)) }
 {
-    made::filled(room, window, rows::letter(line, 2), (count % 1000) as u16)
+    made::filled(
+        rt,
+        room,
+        window,
+        rows::letter(line, 2),
+        (count % 1000) as u16,
+    )
 }
 
 // A packet taken, and its answer where the line has a label.
-fn took(session: Session, room: &mut Room, window: &mut Window, n: u32, line: &[u8]) -> Session
+fn took(
+    rt: &impl Print,
+    session: Session,
+    room: &mut Room,
+    window: &mut Window,
+    n: u32,
+    line: &[u8],
+) -> io::Result<Session>
     requires { Ruled (held session room.old window.old) }
-    ensures { Ruled (held result room.new window.new) }
+    ensures { IfOk result (λ next. Ruled (held next room.new window.new)) }
 {
     let taken = handed(session, room, window, n, line);
     let label = rows::label(line);
     if label.len() != 0 {
         let answer = taken.answer;
-        answers::taken(label, room, answer);
+        answers::taken(rt, label, room, answer)?;
     }
-    taken.session
+    Ok(taken.session)
 }
 
 // By the first letter: take, empty, damage, beat.
@@ -295,54 +331,67 @@ fn damaged(session: Session, room: &mut Room, window: &mut Window, seq: u32, lin
 }
 
 // By the first letter: gap, write the requests, report, lowest, unlisted, code.
-fn question(session: Session, room: &Room, window: &Window, line: &[u8])
+fn question(
+    rt: &impl Print,
+    session: Session,
+    room: &Room,
+    window: &Window,
+    line: &[u8],
+) -> io::Result<()>
     requires { Ruled (held session room.now window.now) }
 {
-    put(rows::label(line));
+    put(rt, rows::label(line))?;
     match rows::letter(line, 0) {
-        b'g' => gap(room, window, number(line, 1)),
-        b'w' => requests(room, window, rows::place(line, 1)),
-        b'r' => answers::report(session, room),
-        b'l' => answers::lowest(room, window),
-        b'u' => answers::unlisted(room),
-        _ => answers::code(room),
+        b'g' => gap(rt, room, window, number(line, 1))?,
+        b'w' => requests(rt, room, window, rows::place(line, 1))?,
+        b'r' => answers::report(rt, session, room)?,
+        b'l' => answers::lowest(rt, room, window)?,
+        b'u' => answers::unlisted(rt, room)?,
+        _ => answers::code(rt, room)?,
     }
-    end();
+    end(rt)
 }
 
-fn gap(room: &Room, window: &Window, from: u64)
+fn gap(rt: &impl Print, room: &Room, window: &Window, from: u64) -> io::Result<()>
     requires { (session : Table) × Ruled (held session room.now window.now) }
 {
     let gap = asking::gap(room, window, from);
-    put(b":");
-    printing::words::number(gap.start);
-    printing::words::number(gap.count);
+    put(rt, b":")?;
+    printing::words::number(rt, gap.start)?;
+    printing::words::number(rt, gap.count)
 }
 
 // The requests written to the first `size` bytes of a buffer of 0xEE.
-fn requests(room: &Room, window: &Window, size: usize)
+fn requests(rt: &impl Print, room: &Room, window: &Window, size: usize) -> io::Result<()>
     requires { (session : Table) × Ruled (held session room.now window.now) }
 {
-    colon();
+    colon(rt)?;
     let mut buf = [0xEEu8; 24];
-    requested(room, window, &mut buf, size);
-    bytes(&buf);
+    requested(rt, room, window, &mut buf, size)?;
+    bytes(rt, &buf)
 }
 
-fn requested(room: &Room, window: &Window, buf: &mut [u8], size: usize)
+fn requested(
+    rt: &impl Print,
+    room: &Room,
+    window: &Window,
+    buf: &mut [u8],
+    size: usize,
+) -> io::Result<()>
     requires { (session : Table) × Ruled (held session room.now window.now) }
 {
     if size <= buf.len() {
-        asked(asking::requests(room, window, &mut buf[0..size]));
+        asked(rt, asking::requests(room, window, &mut buf[0..size]))?;
     }
+    Ok(())
 }
 
-fn asked(said: Asked) {
+fn asked(rt: &impl Print, said: Asked) -> io::Result<()> {
     match said {
         Asked::Count(count) => {
-            put(b"wrote");
-            printing::words::number(count as u64);
+            put(rt, b"wrote")?;
+            printing::words::number(rt, count as u64)
         }
-        Asked::Refused(number) => refusal(number),
+        Asked::Refused(number) => refusal(rt, number),
     }
 }

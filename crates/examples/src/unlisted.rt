@@ -1,17 +1,19 @@
 // Types that are not in the table, by default and strictly, and the Imbalance, which is listed. The lines are
 // those of the sessions.
 use crate::sessions::lines;
+use std::io;
 
-pub fn run() {
-    by_default();
-    strictly();
-    among_faults();
-    later();
+pub fn run(rt: &impl Print) -> io::Result<()> {
+    by_default(rt)?;
+    strictly(rt)?;
+    among_faults(rt)?;
+    later(rt)
 }
 
 // The Delete of the live order with the byte of its type changed removes nothing.
-fn by_default() {
+fn by_default(rt: &impl Print) -> io::Result<()> {
     lines(
+        rt,
         b"at the start | unlisted\n\
         | open 10\n\
         opened at 10 by default | unlisted\n\
@@ -26,11 +28,12 @@ fn by_default() {
         and its tables | report\n\
         | open 10\n\
         opened again | unlisted\n",
-    );
+    )
 }
 
-fn strictly() {
+fn strictly(rt: &impl Print) -> io::Result<()> {
     lines(
+        rt,
         b"| strict 10\n\
         opened at 10 strictly | unlisted\n\
         an Imbalance | damage 10 14 28 delete 0\n\
@@ -45,12 +48,13 @@ fn strictly() {
         | strict 10\n\
         opened again strictly, once four were counted apart | unlisted\n\
         and its tables | report\n",
-    );
+    )
 }
 
 // A Delete of no live order is fault 5 by both.
-fn among_faults() {
+fn among_faults(rt: &impl Print) -> io::Result<()> {
     lines(
+        rt,
         b"| open 10\n\
         | damage 10 14 255 delete 0\n\
         | take 11 delete 0 - - - delete 0\n\
@@ -68,12 +72,13 @@ fn among_faults() {
         | empty 11 0 28 28 29\n\
         a fault, then two unlisted types, strictly | unlisted\n\
         and its tables | report\n",
-    );
+    )
 }
 
 // What waits is not counted before it is applied, and what is old is not counted again.
-fn later() {
+fn later(rt: &impl Print) -> io::Result<()> {
     lines(
+        rt,
         b"| open 10\n\
         numbers 11 to 14 (they wait) | empty 11 0 10 29 255\n\
         by default | unlisted\n\
@@ -82,5 +87,5 @@ fn later() {
         then 11 to 14 again (old) | empty 11 0 10 29 255\n\
         by default | unlisted\n\
         and its tables | report\n",
-    );
+    )
 }

@@ -1,19 +1,21 @@
 // Packets kept and applied later: what waits, what applying a part of it does, and what is refused, old or
 // asked for again meanwhile. The lines are those of the sessions.
 use crate::sessions::lines;
+use std::io;
 
-pub fn run() {
-    full();
-    tables();
-    copies();
-    old();
-    beats();
-    refusals();
-    missing();
+pub fn run(rt: &impl Print) -> io::Result<()> {
+    full(rt)?;
+    tables(rt)?;
+    copies(rt)?;
+    old(rt)?;
+    beats(rt)?;
+    refusals(rt)?;
+    missing(rt)
 }
 
-fn full() {
+fn full(rt: &impl Print) -> io::Result<()> {
     lines(
+        rt,
         b"| fill 256 keep\n\
         256 wait from 1 on, apply by 0 | apply 0\n\
         then 257 (one too many) | keep 257 delete 0\n\
@@ -24,12 +26,13 @@ fn full() {
         apply by the largest number | apply 18446744073709551615\n\
         and again, with nothing left | apply 18446744073709551615\n\
         and its tables | report\n",
-    );
+    )
 }
 
 // The second execution is of more than is left: a fault, once it is applied.
-fn tables() {
+fn tables(rt: &impl Print) -> io::Result<()> {
     lines(
+        rt,
         b"| open 10\n\
         opened at 10, lowest | lowest\n\
         numbers 10 and 11 kept | keep 10 add 0 B 300 1250000 executed 0 - 100 200\n\
@@ -41,12 +44,13 @@ fn tables() {
         and its tables | report\n\
         apply by 2 with one left | apply 2\n\
         and its tables (12 faults now) | report\n",
-    );
+    )
 }
 
 // The copies of 11 differ in the last byte of the quantity.
-fn copies() {
+fn copies(rt: &impl Print) -> io::Result<()> {
     lines(
+        rt,
         b"| open 10\n\
         opened at 10, numbers 10 and 11 kept | keep 10 add 0 B 300 1250000 add 1 B 300 1250000\n\
         then 11 with one byte changed | keep 11 add 1 B 301 1250000\n\
@@ -57,23 +61,25 @@ fn copies() {
         then 11 with one byte changed, once 10 was applied | keep 11 add 1 B 301 1250000\n\
         | apply 1\n\
         then 11 with one byte changed, once it was applied | keep 11 add 1 B 301 1250000\n",
-    );
+    )
 }
 
 // The order that is told again would be a fault if it were applied again.
-fn old() {
+fn old(rt: &impl Print) -> io::Result<()> {
     lines(
+        rt,
         b"| open 10\n\
         | take 10 add 0 B 300 1250000\n\
         10 applied, then 10 kept (old) | keep 10 add 0 B 300 1250000\n\
         then numbers 10 and 11 (half of it old) | keep 10 add 0 B 300 1250000 add 1 B 300 1250000\n\
         apply by 2 | apply 2\n\
         and its tables | report\n",
-    );
+    )
 }
 
-fn beats() {
+fn beats(rt: &impl Print) -> io::Result<()> {
     lines(
+        rt,
         b"| open 10\n\
         opened at 10, heartbeat 12 kept (end moves) | keep 12 beat\n\
         then heartbeat 11 kept (end stays) | keep 11 beat\n\
@@ -81,12 +87,13 @@ fn beats() {
         heartbeat 15 taken while they wait (they are applied) | beat 15\n\
         and its tables | report\n\
         and lowest | lowest\n",
-    );
+    )
 }
 
 // Of packets taken while a message waits.
-fn refusals() {
+fn refusals(rt: &impl Print) -> io::Result<()> {
     lines(
+        rt,
         b"| open 10\n\
         | keep 10 add 0 B 300 1250000\n\
         10 waits, 10 with one byte changed taken | take 10 add 0 B 301 1250000\n\
@@ -97,11 +104,12 @@ fn refusals() {
         and lowest | lowest\n\
         then 11 kept | keep 11 update 0 - 200 1240000\n\
         and taken again while it waits | take 11 update 0 - 200 1240000\n",
-    );
+    )
 }
 
-fn missing() {
+fn missing(rt: &impl Print) -> io::Result<()> {
     lines(
+        rt,
         b"| open 10\n\
         | keep 10 add 0 B 300 1250000 add 1 B 300 1250000\n\
         numbers 10, 11 and 14 kept | keep 14 add 2 B 300 1250000\n\
@@ -120,5 +128,5 @@ fn missing() {
         12 and 13 kept | keep 12 add 3 B 300 1250000 add 4 B 300 1250000\n\
         and lowest (14 waits too) | lowest\n\
         requests | write 12\n",
-    );
+    )
 }

@@ -5,17 +5,19 @@ use crate::tables::Table;
 use crate::{rows, tables};
 use printing::answers;
 use printing::words::{colon, put};
+use std::io;
 
 // A header of these fields, PacketSize, SeqNum, PacketFlag and Messages, in so many lent bytes, the rest zero.
-pub fn case(line: &[u8]) {
+pub fn case(rt: &impl Print, line: &[u8]) -> io::Result<()> {
     let mut packet = [0u8; 2048];
     copy(&front(line), &mut packet);
     let length = rows::place(line, 4);
     if length <= 2048 {
-        put(rows::label(line));
-        colon();
-        answers::header(packet::read_header(&packet[0..length]));
+        put(rt, rows::label(line))?;
+        colon(rt)?;
+        answers::header(rt, packet::read_header(&packet[0..length]))?;
     }
+    Ok(())
 }
 
 // The first bytes of a header of these fields.
@@ -34,8 +36,9 @@ pub fn front(line: &[u8]) -> [u8; 8] {
     ]
 }
 
-pub fn run() {
+pub fn run(rt: &impl Print) -> io::Result<()> {
     tables::run(
+        rt,
         Table::Headers,
         b"header, no byte lent | 12 1 1 0 0\n\
         header, 11 bytes lent | 11 1 1 0 11\n\
@@ -49,8 +52,9 @@ pub fn run() {
         header, PacketSize 0 | 0 1 0 1 12\n\
         header, PacketSize 65,535 | 65535 1 0 1 1472\n\
         header, PacketSize wrong, a reserved bit too | 13 1 2 1 12\n",
-    );
+    )?;
     tables::run(
+        rt,
         Table::Headers,
         b"header, bit 1 set | 13 7 2 1 13\n\
         header, bit 7 set | 13 7 128 1 13\n\
@@ -65,5 +69,5 @@ pub fn run() {
         no heartbeat, Messages 0 | 13 7 0 0 13\n\
         no heartbeat of 12 bytes, Messages 0 | 12 7 0 0 12\n\
         no heartbeat, Messages 255 | 13 7 0 255 13\n",
-    );
+    )
 }

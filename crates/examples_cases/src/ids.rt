@@ -3,19 +3,22 @@ use crate::tables;
 use crate::tables::Table;
 use printing::answers;
 use printing::words::{colon, put, quoted};
+use std::io;
 
-pub fn case(line: &[u8]) {
+pub fn case(rt: &impl Print, line: &[u8]) -> io::Result<()> {
     if line.len() == 14 {
         let id = wire::text14_at(line, 0);
-        put(b"id");
-        quoted(line);
-        colon();
-        answers::value(fields::id::value(id));
+        put(rt, b"id")?;
+        quoted(rt, line)?;
+        colon(rt)?;
+        answers::value(rt, fields::id::value(id))?;
     }
+    Ok(())
 }
 
-pub fn run() {
+pub fn run(rt: &impl Print) -> io::Result<()> {
     tables::run(
+        rt,
         Table::Ids,
         b"7A400CY528L9SN\n\
         000000000010ZZ\n\
@@ -31,5 +34,5 @@ pub fn run() {
         @0000000000000\n\
         [0000000000000\n\
         000000000000~ \n",
-    );
+    )
 }

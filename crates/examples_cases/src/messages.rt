@@ -4,10 +4,11 @@ use crate::tables::Table;
 use crate::{rows, samples, tables};
 use printing::answers;
 use printing::words::{colon, put};
+use std::io;
 
 // A good message of a type with MessageSize set to a size, of which so many bytes are lent, zeros
 // behind its end, and at a place a number of a width: type, size, length, place, width and number.
-pub fn case(line: &[u8]) {
+pub fn case(rt: &impl Print, line: &[u8]) -> io::Result<()> {
     let samples = samples::all();
     let mut bytes = [0u8; 256];
     copy(samples::of_type(&samples, number(line, 0)), &mut bytes);
@@ -20,10 +21,11 @@ pub fn case(line: &[u8]) {
     );
     let length = rows::place(line, 2);
     if length <= 256 {
-        put(rows::label(line));
-        colon();
-        answers::message(message_read::read(&bytes[0..length]), true);
+        put(rt, rows::label(line))?;
+        colon(rt)?;
+        answers::message(rt, message_read::read(&bytes[0..length]), true)?;
     }
+    Ok(())
 }
 
 fn patch(bytes: &mut [u8], at: usize, width: u64, value: u64) {
@@ -51,16 +53,17 @@ pub fn copy(from: &[u8], to: &mut [u8]) {
     }
 }
 
-pub fn run() {
-    references();
-    sizes();
-    adds();
-    orders();
-    shares();
+pub fn run(rt: &impl Print) -> io::Result<()> {
+    references(rt)?;
+    sizes(rt)?;
+    adds(rt)?;
+    orders(rt)?;
+    shares(rt)
 }
 
-fn references() {
+fn references(rt: &impl Print) -> io::Result<()> {
     tables::run(
+        rt,
         Table::Messages,
         b"Security, exact size | 9 36 36 0 0 0\n\
         Security, one byte short | 9 35 35 0 0 0\n\
@@ -75,11 +78,12 @@ fn references() {
         Trading Session 5 | 20 12 12 11 1 5\n\
         Trading Session 0 | 20 12 12 11 1 0\n\
         Trading Session 2 | 20 12 12 11 1 2\n",
-    );
+    )
 }
 
-fn sizes() {
+fn sizes(rt: &impl Print) -> io::Result<()> {
     tables::run(
+        rt,
         Table::Messages,
         b"Order Add, exact size | 21 55 55 0 0 0\n\
         Order Add, MessageSize 54 (P5) | 21 54 54 0 0 0\n\
@@ -94,11 +98,12 @@ fn sizes() {
         Order Add, no byte lent | 21 55 0 0 0 0\n\
         Order Add, 2 bytes lent | 21 2 2 0 0 0\n\
         Order Add too short, its side X too | 21 54 54 21 1 88\n",
-    );
+    )
 }
 
-fn adds() {
+fn adds(rt: &impl Print) -> io::Result<()> {
     tables::run(
+        rt,
         Table::Messages,
         b"Order Add, a small letter in the id | 21 55 55 18 1 97\n\
         Order Add, a small letter in the id's last two | 21 55 55 19 1 97\n\
@@ -117,11 +122,12 @@ fn adds() {
         Order Add, unsolicited Y | 21 55 55 52 1 89\n\
         Order Add, unsolicited X | 21 55 55 52 1 88\n\
         Order Add, flags 65,535 | 21 55 55 53 2 65535\n",
-    );
+    )
 }
 
-fn orders() {
+fn orders(rt: &impl Print) -> io::Result<()> {
     tables::run(
+        rt,
         Table::Messages,
         b"Order Update, exact size | 22 35 35 0 0 0\n\
         Order Update, one byte short | 22 34 34 0 0 0\n\
@@ -142,11 +148,12 @@ fn orders() {
         Execution with Price, exact size | 25 45 45 0 0 0\n\
         Execution with Price, one byte short | 25 44 44 0 0 0\n\
         Execution with Price, price 0 | 25 45 45 37 8 0\n",
-    );
+    )
 }
 
-fn shares() {
+fn shares(rt: &impl Print) -> io::Result<()> {
     tables::run(
+        rt,
         Table::Messages,
         b"Top of Book, exact size | 26 46 46 0 0 0\n\
         Top of Book, one byte short | 26 45 45 0 0 0\n\
@@ -160,5 +167,5 @@ fn shares() {
         Trade, quantity 0 | 27 50 50 8 4 0\n\
         Trade, price 0 | 27 50 50 26 8 0\n\
         Trade, reserved 18,446,744,073,709,551,615 | 27 50 50 42 8 18446744073709551615\n",
-    );
+    )
 }

@@ -6,52 +6,64 @@ use packet::Header;
 use printing::answers;
 use printing::answers::written;
 use printing::words::{bytes, colon, end, put};
+use std::io;
 
-pub fn run() {
-    messages();
-    headers();
+pub fn run(rt: &impl Print) -> io::Result<()> {
+    messages(rt)?;
+    headers(rt)
 }
 
 // A good message of a type written at a place in the first bytes of a buffer: type, room and place.
-pub fn case(line: &[u8]) {
-    put(rows::label(line));
-    colon();
+pub fn case(rt: &impl Print, line: &[u8]) -> io::Result<()> {
+    put(rt, rows::label(line))?;
+    colon(rt)?;
     let samples = samples::all();
     let good = samples::of_type(&samples, number(line, 0));
     let at = rows::place(line, 2);
     let mut buffer = [0xEEu8; 64];
-    write(good, &mut buffer, rows::place(line, 1), at);
-    bytes(&buffer);
-    end();
-    back(&buffer, good.len(), at);
+    write(rt, good, &mut buffer, rows::place(line, 1), at)?;
+    bytes(rt, &buffer)?;
+    end(rt)?;
+    back(rt, &buffer, good.len(), at)
 }
 
-fn write(good: &[u8], buffer: &mut [u8], room: usize, at: usize) {
+fn write(
+    rt: &impl Print,
+    good: &[u8],
+    buffer: &mut [u8],
+    room: usize,
+    at: usize,
+) -> io::Result<()> {
     if room <= buffer.len() {
         let answer = message_read::read(good);
-        written(message_write::write(answer.message, &mut buffer[0..room], at));
+        written(
+            rt,
+            message_write::write(answer.message, &mut buffer[0..room], at),
+        )?;
     }
+    Ok(())
 }
 
 // What reading says of as many bytes at that place.
-fn back(buffer: &[u8], size: usize, at: usize) {
+fn back(rt: &impl Print, buffer: &[u8], size: usize, at: usize) -> io::Result<()> {
     if at <= buffer.len() {
         if size <= buffer.len() - at {
             let end = at + size;
-            put(b"  read back: ");
-            answers::message(message_read::read(&buffer[at..end]), true);
+            put(rt, b"  read back: ")?;
+            answers::message(rt, message_read::read(&buffer[at..end]), true)?;
         }
     }
+    Ok(())
 }
 
 // A header of this size, flag and count of messages, written to the first bytes of a buffer.
-pub fn header(line: &[u8]) {
-    put(rows::label(line));
-    colon();
+pub fn header(rt: &impl Print, line: &[u8]) -> io::Result<()> {
+    put(rt, rows::label(line))?;
+    colon(rt)?;
     let mut buffer = [0xEEu8; 16];
-    write_header(header_of(line), &mut buffer, rows::place(line, 3));
-    bytes(&buffer);
-    end();
+    write_header(rt, header_of(line), &mut buffer, rows::place(line, 3))?;
+    bytes(rt, &buffer)?;
+    end(rt)
 }
 
 fn header_of(line: &[u8]) -> Header {
@@ -67,15 +79,17 @@ fn header_of(line: &[u8]) -> Header {
     }
 }
 
-fn write_header(header: Header, buffer: &mut [u8], room: usize) {
+fn write_header(rt: &impl Print, header: Header, buffer: &mut [u8], room: usize) -> io::Result<()> {
     if room <= buffer.len() {
-        written(packet::write_header(header, &mut buffer[0..room]));
+        written(rt, packet::write_header(header, &mut buffer[0..room]))?;
     }
+    Ok(())
 }
 
 // Type, room and place.
-fn messages() {
+fn messages(rt: &impl Print) -> io::Result<()> {
     tables::run(
+        rt,
         Table::Writes,
         b"write Security | 9 64 3\n\
         write Start of Spin | 11 64 3\n\
@@ -94,11 +108,12 @@ fn messages() {
         write Order Delete at the largest place | 23 24 18446744073709551615\n\
         write Imbalance | 28 64 0\n\
         write Imbalance behind the end | 28 0 1\n",
-    );
+    )
 }
 
-fn headers() {
+fn headers(rt: &impl Print) -> io::Result<()> {
     tables::run(
+        rt,
         Table::WrittenHeaders,
         b"write header | 67 0 1 16\n\
         write header of a heartbeat | 12 1 0 12\n\
@@ -108,5 +123,5 @@ fn headers() {
         write header, a reserved bit | 67 2 1 16\n\
         write header, a heartbeat of 13 bytes | 13 1 0 16\n\
         write header, Messages 0, no buffer | 67 0 0 0\n",
-    );
+    )
 }

@@ -2,58 +2,60 @@
 use crate::words;
 use crate::words::{byte, number, small};
 use message::{Body, Message, Terms};
+use std::io;
 
-fn text(s: &[u8], quoted: bool) {
+fn text(rt: &impl Print, s: &[u8], quoted: bool) -> io::Result<()> {
     if quoted {
-        words::quoted(s);
+        words::quoted(rt, s)
     } else {
-        words::bytes(s);
+        words::bytes(rt, s)
     }
 }
 
-fn id_of(m: Message, quoted: bool) {
+fn id_of(rt: &impl Print, m: Message, quoted: bool) -> io::Result<()> {
     let id = m.id;
-    text(&id, quoted);
+    text(rt, &id, quoted)
 }
 
-fn symbol_of(m: Message, quoted: bool) {
+fn symbol_of(rt: &impl Print, m: Message, quoted: bool) -> io::Result<()> {
     let symbol = m.symbol;
-    text(&symbol, quoted);
+    text(rt, &symbol, quoted)
 }
 
-fn firm_of(m: Message, quoted: bool) {
+fn firm_of(rt: &impl Print, m: Message, quoted: bool) -> io::Result<()> {
     let firm = m.firm;
-    text(&firm, quoted);
+    text(rt, &firm, quoted)
 }
 
-fn kind_of(t: Terms) {
+fn kind_of(rt: &impl Print, t: Terms) -> io::Result<()> {
     match t {
-        Terms::Published => byte(24),
-        Terms::Own(_) => byte(25),
+        Terms::Published => byte(rt, 24),
+        Terms::Own(_) => byte(rt, 25),
     }
 }
 
-fn price_of(t: Terms) {
+fn price_of(rt: &impl Print, t: Terms) -> io::Result<()> {
     if let Terms::Own(price) = t {
-        number(price);
+        number(rt, price)?;
     }
+    Ok(())
 }
 
-pub fn fields(m: Message, quoted: bool) {
+pub fn fields(rt: &impl Print, m: Message, quoted: bool) -> io::Result<()> {
     let body = m.body;
     match body {
-        Body::Security { .. } => security(m, quoted),
-        Body::Add { .. } => add(m, quoted),
-        Body::Update { .. } => order(m, quoted),
-        Body::Delete { .. } => order(m, quoted),
-        Body::Execution { .. } => order(m, quoted),
-        Body::Top { .. } => share(m, quoted),
-        Body::Trade { .. } => share(m, quoted),
-        _ => reference(body),
+        Body::Security { .. } => security(rt, m, quoted),
+        Body::Add { .. } => add(rt, m, quoted),
+        Body::Update { .. } => order(rt, m, quoted),
+        Body::Delete { .. } => order(rt, m, quoted),
+        Body::Execution { .. } => order(rt, m, quoted),
+        Body::Top { .. } => share(rt, m, quoted),
+        Body::Trade { .. } => share(rt, m, quoted),
+        _ => reference(rt, body),
     }
 }
 
-fn security(m: Message, quoted: bool) {
+fn security(rt: &impl Print, m: Message, quoted: bool) -> io::Result<()> {
     let body = m.body;
     if let Body::Security {
         updated,
@@ -66,26 +68,27 @@ fn security(m: Message, quoted: bool) {
         status,
     } = body
     {
-        byte(9);
-        symbol_of(m, quoted);
-        number(updated);
-        byte(action);
-        byte(class);
-        small(listed);
-        small(flags as u32);
-        byte(tier);
-        byte(reporting);
-        byte(status);
+        byte(rt, 9)?;
+        symbol_of(rt, m, quoted)?;
+        number(rt, updated)?;
+        byte(rt, action)?;
+        byte(rt, class)?;
+        small(rt, listed)?;
+        small(rt, flags as u32)?;
+        byte(rt, tier)?;
+        byte(rt, reporting)?;
+        byte(rt, status)?;
     }
+    Ok(())
 }
 
-fn reference(body: Body) {
+fn reference(rt: &impl Print, body: Body) -> io::Result<()> {
     match body {
         Body::SpinStart { spin, time, last } => {
-            byte(11);
-            byte(spin);
-            number(time);
-            small(last);
+            byte(rt, 11)?;
+            byte(rt, spin)?;
+            number(rt, time)?;
+            small(rt, last)
         }
         Body::SpinEnd {
             spin,
@@ -93,23 +96,23 @@ fn reference(body: Body) {
             time,
             last,
         } => {
-            byte(12);
-            byte(spin);
-            small(count);
-            number(time);
-            small(last);
+            byte(rt, 12)?;
+            byte(rt, spin)?;
+            small(rt, count)?;
+            number(rt, time)?;
+            small(rt, last)
         }
         Body::TradingSession { time, session } => {
-            byte(20);
-            number(time);
-            byte(session);
+            byte(rt, 20)?;
+            number(rt, time)?;
+            byte(rt, session)
         }
-        Body::Other(kind) => byte(kind),
-        _ => {},
+        Body::Other(kind) => byte(rt, kind),
+        _ => Ok(()),
     }
 }
 
-fn add(m: Message, quoted: bool) {
+fn add(rt: &impl Print, m: Message, quoted: bool) -> io::Result<()> {
     let body = m.body;
     if let Body::Add {
         time,
@@ -120,20 +123,21 @@ fn add(m: Message, quoted: bool) {
         flags,
     } = body
     {
-        byte(21);
-        small(time);
-        id_of(m, quoted);
-        byte(side);
-        small(quantity);
-        symbol_of(m, quoted);
-        number(price);
-        firm_of(m, quoted);
-        byte(unsolicited);
-        small(flags as u32);
+        byte(rt, 21)?;
+        small(rt, time)?;
+        id_of(rt, m, quoted)?;
+        byte(rt, side)?;
+        small(rt, quantity)?;
+        symbol_of(rt, m, quoted)?;
+        number(rt, price)?;
+        firm_of(rt, m, quoted)?;
+        byte(rt, unsolicited)?;
+        small(rt, flags as u32)?;
     }
+    Ok(())
 }
 
-fn order(m: Message, quoted: bool) {
+fn order(rt: &impl Print, m: Message, quoted: bool) -> io::Result<()> {
     let body = m.body;
     match body {
         Body::Update {
@@ -142,17 +146,17 @@ fn order(m: Message, quoted: bool) {
             price,
             flags,
         } => {
-            byte(22);
-            small(time);
-            id_of(m, quoted);
-            small(quantity);
-            number(price);
-            small(flags as u32);
+            byte(rt, 22)?;
+            small(rt, time)?;
+            id_of(rt, m, quoted)?;
+            small(rt, quantity)?;
+            number(rt, price)?;
+            small(rt, flags as u32)
         }
         Body::Delete { time } => {
-            byte(23);
-            small(time);
-            id_of(m, quoted);
+            byte(rt, 23)?;
+            small(rt, time)?;
+            id_of(rt, m, quoted)
         }
         Body::Execution {
             time,
@@ -161,19 +165,19 @@ fn order(m: Message, quoted: bool) {
             execution,
             terms,
         } => {
-            kind_of(terms);
-            small(time);
-            id_of(m, quoted);
-            small(executed);
-            small(remaining);
-            number(execution);
-            price_of(terms);
+            kind_of(rt, terms)?;
+            small(rt, time)?;
+            id_of(rt, m, quoted)?;
+            small(rt, executed)?;
+            small(rt, remaining)?;
+            number(rt, execution)?;
+            price_of(rt, terms)
         }
-        _ => {},
+        _ => Ok(()),
     }
 }
 
-fn share(m: Message, quoted: bool) {
+fn share(rt: &impl Print, m: Message, quoted: bool) -> io::Result<()> {
     let body = m.body;
     match body {
         Body::Top {
@@ -184,14 +188,14 @@ fn share(m: Message, quoted: bool) {
             bidvolume,
             unsolicited,
         } => {
-            byte(26);
-            small(time);
-            symbol_of(m, quoted);
-            number(ask);
-            small(askvolume);
-            number(bid);
-            small(bidvolume);
-            byte(unsolicited);
+            byte(rt, 26)?;
+            small(rt, time)?;
+            symbol_of(rt, m, quoted)?;
+            number(rt, ask)?;
+            small(rt, askvolume)?;
+            number(rt, bid)?;
+            small(rt, bidvolume)?;
+            byte(rt, unsolicited)
         }
         Body::Trade {
             time,
@@ -201,15 +205,15 @@ fn share(m: Message, quoted: bool) {
             execution,
             reserved,
         } => {
-            byte(27);
-            small(time);
-            byte(side);
-            small(quantity);
-            symbol_of(m, quoted);
-            number(price);
-            number(execution);
-            number(reserved);
+            byte(rt, 27)?;
+            small(rt, time)?;
+            byte(rt, side)?;
+            small(rt, quantity)?;
+            symbol_of(rt, m, quoted)?;
+            number(rt, price)?;
+            number(rt, execution)?;
+            number(rt, reserved)
         }
-        _ => {},
+        _ => Ok(()),
     }
 }

@@ -1,6 +1,9 @@
 // Parts: standard input, read by the buffer.
-ghost use Rattle.std.specs.Prelude.{◌≡◌, ◌+◌, ◌-◌, ◌≤◌, length, take, drop};
+ghost use Rattle.std.specs.Prelude.{◌≡◌, ◌+◌, ◌-◌, ◌≤◌, length, take, drop, IfOk};
 ghost use Rattle.text.specs.Input.{More};
+
+use std::io;
+use std::io::Read;
 
 // Moves what a buffer holds between two places to its front.
 fn shift(buf: &mut [u8], from: usize, to: usize)
@@ -18,20 +21,19 @@ fn shift(buf: &mut [u8], from: usize, to: usize)
     }
 }
 
-// One read; 0 where the input has ended or cannot be read.
-fn read(buf: &mut [u8]) -> usize
-    ensures { result ≤ length buf.new }
+// One read; 0 where the input has ended.
+fn read(input: &mut impl Read, buf: &mut [u8]) -> io::Result<usize>
+    ensures { IfOk result (λ got. got ≤ length buf.new) }
 {
-    let got = libc::read(libc::STDIN_FILENO, buf);
-    io::count(got, buf)
+    input.read(buf)
 }
 
 // Moves what is held to the front, reads once behind it, and answers how many bytes came.
-pub fn more(buf: &mut [u8], from: usize, to: usize) -> usize
+pub fn more(input: &mut impl Read, buf: &mut [u8], from: usize, to: usize) -> io::Result<usize>
     requires { (from ≤ to) × (to ≤ length buf.old) }
-    ensures { More buf.old from to result buf.new }
+    ensures { IfOk result (λ got. More buf.old from to got buf.new) }
 {
     shift(buf, from, to);
     let kept = to - from;
-    read(&mut buf[kept..])
+    read(input, &mut buf[kept..])
 }

@@ -1,6 +1,8 @@
 // Parts: an answer built up in a lent buffer.
-ghost use Rattle.std.specs.Prelude.{◌≡◌};
+ghost use Rattle.std.specs.Prelude.{◌≡◌, IfOk};
 ghost use Rattle.text.specs.Output.{Put};
+
+use std::io;
 
 // The text put at a place, and the place behind it. Where it does not fit nothing is put, and the
 // buffer counts as full: a caller lends enough, and needs no proof that it did.
@@ -19,11 +21,11 @@ pub fn put(out: &mut [u8], at: usize, text: &[u8]) -> usize
 }
 
 // Writes the buffer's first bytes to standard output, and answers where the next text goes: the front.
-pub fn write(out: &[u8], end: usize) -> usize
-    ensures { result ≡ 0 }
+pub fn write(rt: &impl Print, out: &[u8], end: usize) -> io::Result<usize>
+    ensures { IfOk result (λ at. at ≡ 0) }
 {
     if end <= out.len() {
-        io::write_all(libc::STDOUT_FILENO, &out[0..end]);
+        rt.write_all(&out[0..end])?;
     }
-    0
+    Ok(0)
 }

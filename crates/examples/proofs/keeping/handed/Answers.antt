@@ -5,7 +5,7 @@ use Rattle.examples.proofs.keeping.handed.Goals as goal
 
 pub kept-requires : goal.kept-requires
 kept-requires c =
-    let start = c{-entry-from-kept-arg2-} in
+    let start = c {-entry-from-kept-arg2-} in
     (start.args.session, c.keep-said.ensures.held.1 start.args.session start.pre)
 
 pub returns-then-label-ne0 : goal.returns-then-label-ne0
