@@ -1,6 +1,4 @@
 -- Laws of `packet_reader`'s definitions, which the proofs of this crate and of those above cite.
 pub mod Frames
 pub mod Handing
-pub mod Lending
 pub mod Refusals
-pub mod Walking
