@@ -147,7 +147,7 @@ loop-here-preserved c =
     }
 
 pub size-size-requires : goal.size-size-requires
-size-size-requires c = (mod-lt c.loop-here.next {m = 256} (omega arith), begins (one c{-loop-from-size-arg-}).now)
+size-size-requires c = (mod-lt c.loop-here.next {m = 256} (omega arith), begins (one c {-loop-from-size-arg-}).now)
 
 pub close-requires : goal.close-requires
 close-requires c = closes (one c.before.before.before).now
@@ -159,7 +159,7 @@ pub loop-here-smaller-then-size-eq0 : goal.loop-here-smaller-then-size-eq0
 loop-here-smaller-then-size-eq0 c = omega (arith, less c)
 
 pub fetch-requires : goal.fetch-requires
-fetch-requires c = (mod-lt c.loop-here.next {m = 256} (omega arith), (one c{-loop-from-fetch-arg2-}).wide)
+fetch-requires c = (mod-lt c.loop-here.next {m = 256} (omega arith), (one c {-loop-from-fetch-arg2-}).wide)
 
 pub free-requires : goal.free-requires
 free-requires c = (mod-lt c.loop-here.next {m = 256} (omega arith), (one c.before.before.before.before.before).now.long)
