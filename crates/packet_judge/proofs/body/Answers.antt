@@ -2,7 +2,6 @@
 -- Assumes nothing.
 use mathlib.Core.Path.{◌∙◌}
 use Rattle.packet.proofs.Judgements.{body_broken, body_past, body_good}
-use borrow.Author.Rules.{rules}
 use Rattle.packet_judge.proofs.body.Goals as goal
 
 pub returns-then-seq-messages-gt4294967296 : goal.returns-then-seq-messages-gt4294967296

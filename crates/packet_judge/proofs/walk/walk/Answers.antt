@@ -1,19 +1,16 @@
 -- `packet::walk::walk` meets its contract: what is left of the walk, from where it is, is the whole walk.
 -- Assumes nothing.
 use borrow.Author.Rules.{rules}
-use mathlib.Core.Path.{◌≡◌, refl, ◌∙◌, sym}
-use Prim.Native.Nat.{◌≤◌, ◌<◌}
+use mathlib.Core.Path.{◌∙◌, sym}
 use native.Mathlib.Omega.{arith}
-use lib.ListN.{length}
-use Rattle.packet.specs.Walk.{walk_from}
 use Rattle.packet.proofs.Walking.{walk_stops, walk_goes, step_within, left_over, all_there}
 use Rattle.packet_judge.proofs.walk.walk.Goals as goal
 
 pub step_by-size-requires : goal.step_by-size-requires
-step_by-size-requires c = (search rules, c.sizes-sizes.ensures)
+step_by-size-requires c = record { at_in_bounds = search rules; sizes_value = c.sizes-sizes.ensures }
 
 pub returns-then-size-eq0 : goal.returns-then-size-eq0
-returns-then-size-eq0 c = let at-step-by = c.before in let at-loop-test = at-step-by.before.before in let at-loop = at-loop-test.before in walk_stops _ _ _ at-step-by.step_by-size.ensures _ at-loop-test.loop-left-test.true c.if-size-eq0.true ∙ sym at-loop.loop-left.invariant.1.1
+returns-then-size-eq0 c = walk_stops _ _ _ c.step_by-size.ensures _ c.loop-left-test.true c.if-size-eq0.true ∙ sym c.loop-left.invariant.1.1
 
 pub overflow_add-at : goal.overflow_add-at
 overflow_add-at c = omega (arith, (step_within _ _ _ c.step_by-size.ensures c.if-size-eq0.false).within)

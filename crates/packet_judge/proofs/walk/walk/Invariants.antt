@@ -1,12 +1,9 @@
 -- `packet::walk::walk` meets its contract: what is left of the walk, from where it is, is the whole walk.
 -- Assumes nothing.
-use borrow.Author.Rules.{rules}
-use mathlib.Core.Path.{◌≡◌, refl, ◌∙◌, sym}
+use mathlib.Core.Path.{◌≡◌}
 use Prim.Native.Nat.{◌≤◌, ◌<◌}
-use native.Mathlib.Omega.{arith}
 use lib.ListN.{length}
 use Rattle.packet.specs.Walk.{walk_from}
-use Rattle.packet.proofs.Walking.{walk_stops, walk_goes, step_within, left_over, all_there}
 use Rattle.packet_judge.proofs.walk.walk.Given as goal
 
 abbrev pub invariant-loop-left : goal.invariant-loop-left

@@ -5,7 +5,11 @@ use borrow.Author.Rules.{rules}
 use Rattle.single.proofs.headers.read.Goals as goal
 
 pub returns-in-Fields : goal.returns-in-Fields
-returns-in-Fields c = header_by c.read_header.ensures c.args.told.now c.in-Fields.is
+returns-in-Fields c =
+    let h = header_by c.read_header.ensures c.args.told.now c.in-Fields.is in
+    record { refusal = h.0; told = h.1 }
 
 pub returns-in-Refused : goal.returns-in-Refused
-returns-in-Refused c = header_by c.read_header.ensures c.args.told.now c.in-Refused.is
+returns-in-Refused c =
+    let h = header_by c.read_header.ensures c.args.told.now c.in-Refused.is in
+    record { refusal = h.0; told = h.1 }

@@ -6,4 +6,7 @@ use borrow.Author.Rules.{rules}
 use Rattle.single.proofs.headers.write.Goals as goal
 
 pub returns : goal.returns
-returns c = (c.refusal_of.ensures ∙ ap written_refusal c.write_header.ensures.answer, c.write_header.ensures.buffer)
+returns c = record {
+  refusal = c.refusal_of.ensures ∙ ap written_refusal c.write_header.ensures.answer;
+  buffer = c.write_header.ensures.buffer;
+}

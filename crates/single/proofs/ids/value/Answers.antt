@@ -5,7 +5,11 @@ use borrow.Author.Rules.{rules}
 use Rattle.single.proofs.ids.value.Goals as goal
 
 pub returns-in-Value : goal.returns-in-Value
-returns-in-Value c = value_by c.value.ensures c.args.told.now c.in-Value.is
+returns-in-Value c =
+    let h = value_by c.value.ensures c.args.told.now c.in-Value.is in
+    record { refusal = h.0; told = h.1 }
 
 pub returns-in-Refused : goal.returns-in-Refused
-returns-in-Refused c = value_by c.value.ensures c.args.told.now c.in-Refused.is
+returns-in-Refused c =
+    let h = value_by c.value.ensures c.args.told.now c.in-Refused.is in
+    record { refusal = h.0; told = h.1 }

@@ -8,7 +8,11 @@ pub tell-requires : goal.tell-requires
 tell-requires c = read_laid _ c.args.told.now c.read-reading.ensures c.in-Accepted.is
 
 pub returns-in-Accepted : goal.returns-in-Accepted
-returns-in-Accepted c = read_accepted _ c.args.told.now c.read-reading.ensures c.in-Accepted.is c.tell.ensures
+returns-in-Accepted c =
+    let h = read_accepted _ c.args.told.now c.read-reading.ensures c.in-Accepted.is c.tell.ensures in
+    record { refusal = h.0; told = h.1 }
 
 pub returns-in-Refused : goal.returns-in-Refused
-returns-in-Refused c = read_refused _ c.args.told.now c.read-reading.ensures c.in-Refused.is
+returns-in-Refused c =
+    let h = read_refused _ c.args.told.now c.read-reading.ensures c.in-Refused.is in
+    record { refusal = h.0; told = h.1 }

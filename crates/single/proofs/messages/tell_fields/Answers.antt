@@ -10,7 +10,10 @@ pub loop-k-init : goal.loop-k-init
 loop-k-init c = tell_none _ _ _ c.requires
 
 pub number_at-requires : goal.number_at-requires
-number_at-requires c = (width _ _ _ _ c.loop-k.invariant.left c.loop-k-test.true, fits _ _ _ _ c.loop-k.invariant.left c.loop-k-test.true)
+number_at-requires c = record {
+  width = width _ _ _ _ c.loop-k.invariant.left c.loop-k-test.true;
+  width_in_bounds = fits _ _ _ _ c.loop-k.invariant.left c.loop-k-test.true;
+}
 
 pub overflow_add-at : goal.overflow_add-at
 overflow_add-at c = omega (arith, fits _ _ _ _ c.loop-k.invariant.left c.loop-k-test.true)

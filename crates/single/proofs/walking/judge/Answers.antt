@@ -10,4 +10,7 @@ use Rattle.single.proofs.walking.judge.Goals as goal
 pub returns : goal.returns
 returns c =
     let said = c.judge-said.ensures in
-    (ap (λ (x : Judged). x.test) said, ap (λ (x : Judged). over (x.offset ∷ []) c.args.told.now) said)
+    record {
+      refusal = ap (λ (x : Judged). x.test) said;
+      told = ap (λ (x : Judged). over (x.offset ∷ []) c.args.told.now) said;
+    }

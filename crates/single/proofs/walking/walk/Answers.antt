@@ -6,19 +6,25 @@ use borrow.Author.Rules.{rules}
 use Rattle.single.proofs.walking.walk.Goals as goal
 
 pub returns-then-said-ne0 : goal.returns-then-said-ne0
-returns-then-said-ne0 c = refused _ c.args.places.now c.args.told.now c.opened-said.ensures c.if-said-ne0.true
+returns-then-said-ne0 c =
+    let h = refused _ c.args.places.now c.args.told.now c.opened-said.ensures c.if-said-ne0.true in
+    record { refusal = h.0; places = h.1.0; told = h.1.1 }
 
 pub u8_at-messages-requires : goal.u8_at-messages-requires
 u8_at-messages-requires c = omega (arith, header_there c.args.packet.now c.args.places.now c.args.told.now c.opened-said.ensures c.if-said-ne0.false)
 
 pub returns-then-places-messages : goal.returns-then-places-messages
-returns-then-places-messages c = too_short _ c.args.places.now c.args.told.now c.opened-said.ensures c.if-said-ne0.false c.u8_at-messages.ensures (omega (arith, c.if-places-messages.true))
+returns-then-places-messages c =
+    let h = too_short _ c.args.places.now c.args.told.now c.opened-said.ensures c.if-said-ne0.false c.u8_at-messages.ensures (omega (arith, c.if-places-messages.true)) in
+    record { refusal = h.0; places = h.1.0; told = h.1.1 }
 
 pub put-requires : goal.put-requires
-put-requires c = (
-  walkable _ c.args.places.now c.args.told.now c.opened-said.ensures c.if-said-ne0.false c.u8_at-messages.ensures,
-  omega (arith, c.if-places-messages.false),
-)
+put-requires c = record {
+  walkable = walkable _ c.args.places.now c.args.told.now c.opened-said.ensures c.if-said-ne0.false c.u8_at-messages.ensures;
+  messages_in_bounds = omega (arith, c.if-places-messages.false);
+}
 
 pub returns : goal.returns
-returns c = walked _ c.args.places.now c.args.told.now c.opened-said.ensures c.if-said-ne0.false c.u8_at-messages.ensures (omega (arith, c.if-places-messages.false)) c.put.ensures
+returns c =
+    let h = walked _ c.args.places.now c.args.told.now c.opened-said.ensures c.if-said-ne0.false c.u8_at-messages.ensures (omega (arith, c.if-places-messages.false)) c.put.ensures in
+    record { refusal = h.0; places = h.1.0; told = h.1.1 }

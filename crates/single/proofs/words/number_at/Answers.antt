@@ -9,7 +9,7 @@ use borrow.Author.Rules.{rules}
 use Rattle.single.proofs.words.number_at.Goals as goal
 
 pub u64_at-requires : goal.u64_at-requires
-u64_at-requires c = omega (arith, last c.requires.width c.in-1.rest, c.requires.width_in_bounds)
+u64_at-requires c = omega (arith, last c.requires.width (search rules), c.requires.width_in_bounds)
 
 pub returns-in-1 : goal.returns-in-1
 returns-in-1 c = c.u8_at.ensures ∙ ap (λ (w : ℕ). num (part c.args.s.now c.args.at w)) (sym c.in-1.is)
@@ -21,4 +21,4 @@ pub returns-in-4 : goal.returns-in-4
 returns-in-4 c = c.u32_at.ensures ∙ ap (λ (w : ℕ). num (part c.args.s.now c.args.at w)) (sym c.in-4.is)
 
 pub returns-in_default : goal.returns-in_default
-returns-in_default c = c.u64_at.ensures ∙ ap (λ (w : ℕ). num (part c.args.s.now c.args.at w)) (sym (last c.requires.width c.in-1.rest))
+returns-in_default c = c.u64_at.ensures ∙ ap (λ (w : ℕ). num (part c.args.s.now c.args.at w)) (sym (last c.requires.width (search rules)))

@@ -19,4 +19,4 @@ pub returns-in-4 : goal.returns-in-4
 returns-in-4 c = sym (ap (λ (w : ℕ). leb (256 ^ w) c.args.n) c.in-4.is)
 
 pub returns-in_default : goal.returns-in_default
-returns-in_default c = sym (lt-leb 18446744073709551616 c.args.n (search rules)) ∙ sym (ap (λ (w : ℕ). leb (256 ^ w) c.args.n) (last c.requires c.in-1.rest))
+returns-in_default c = sym (lt-leb 18446744073709551616 c.args.n (search rules)) ∙ sym (ap (λ (w : ℕ). leb (256 ^ w) c.args.n) (last c.requires (search rules)))
