@@ -1,8 +1,8 @@
 -- The engine until a message touches an order: each turn of the loop is one step of the definition.
 -- Assumes nothing.
-use mathlib.Core.Path.{ap, ◌∙◌, sym, subst}
+use mathlib.Core.Path.{◌≡◌, ap, ◌∙◌, sym, subst}
 use mathlib.Core.List.{List}
-use Prim.Native.Nat.{◌+◌, ◌-◌, ◌*◌, ◌≤◌, ◌<◌}
+use Prim.Native.Nat.{ℕ, ◌+◌, ◌-◌, ◌*◌, ◌≤◌, ◌<◌}
 use native.Mathlib.Nat.{mod-lt}
 use native.Mathlib.Omega.{arith}
 use lib.ListN.{length}
@@ -10,6 +10,7 @@ use Rattle.wire.specs.Number.{Bytes}
 use Rattle.book.specs.declared.tables.Order.{Order}
 use Rattle.book_room.specs.Room.{Houses}
 use Rattle.window_taking.specs.declared.burst.Turn.{Turn}
+use Rattle.session_message.specs.AtNext.{onward_of}
 use Rattle.session_message.specs.declared.PacketRest.{PacketRest}
 use Rattle.window_taking.proofs.Passing.{bytes_of}
 use Rattle.session.specs.Engine.{Going, Task, Touched, between_of, turns_left}
@@ -86,12 +87,9 @@ loop-here-smaller-then-size-eq0 c = omega (arith, less c)
 
 -- ---- a message waits
 
-fewer : (c : goal.After-apply-touched) → turns_left c.loop-here.turn (c.loop-here.next + 1) c.onward-rest.result < turns_left c.loop-here.turn c.loop-here.next c.loop-here.rest
-fewer c =
-    let g = c.loop-here.invariant.all _ _ (from_between c.requires.2) in
-    subst (λ (z : PacketRest). turns_left c.loop-here.turn (c.loop-here.next + 1) z < turns_left c.loop-here.turn c.loop-here.next c.loop-here.rest)
-    (sym c.onward-rest.ensures)
-    (here g.now c.size-size.ensures c.if-size-eq0.false c.loop-here.text g.wide c.fetch.ensures).fewer
+fewer : (turn : Turn) (next size : ℕ) (rest : PacketRest) {to : PacketRest} → to ≡ onward_of rest size
+    → turns_left turn (next + 1) (onward_of rest size) < turns_left turn next rest → turns_left turn (next + 1) to < turns_left turn next rest
+fewer turn next size rest is less = subst (λ (z : PacketRest). turns_left turn (next + 1) z < turns_left turn next rest) (sym is) less
 
 pub fetch-requires : goal.fetch-requires
 fetch-requires c = (mod-lt c.loop-here.next {m = 256} (omega arith), (c.loop-here.invariant.all _ _ (from_between c.requires.2)).wide)
@@ -125,18 +123,22 @@ pub shape_of-answers-then-touched : goal.shape_of-answers-then-touched
 shape_of-answers-then-touched c = (c.loop-here.invariant.all _ _ (from_between c.requires.2)).long ∙ sym c.requires.2.long
 
 pub returns-then-touched : goal.returns-then-touched
-returns-then-touched c t os g =
-    let is = c.loop-here.invariant.all t os (from_between g) in
+returns-then-touched c t os g₀ =
+    let g = c.loop-here.invariant.all _ _ (from_between c.requires.2) in
+    let on = fewer c.loop-here.turn c.loop-here.next c.size-size.result c.loop-here.rest c.onward-rest.ensures (here g.now c.size-size.ensures c.if-size-eq0.false c.loop-here.text g.wide c.fetch.ensures).fewer in
+    let is = c.loop-here.invariant.all t os (from_between g₀) in
     let told = c.size-size.ensures in
     let some = c.if-size-eq0.false in
     let housed = houses_read is.now told some c.loop-here.text is.wide c.fetch.ensures c.message-bytes.ensures in
     came_waits c.apply-touched.result c.at_hand.ensures
     (waits_so is.now told some c.loop-here.text is.wide c.fetch.ensures c.message-bytes.ensures (c.apply-touched.ensures t.next t.end (tabled is.now) housed) c.free.ensures c.onward-rest.ensures is.long c.if-touched.true)
-    (omega (arith, fewer (goal.at.returns-then-touched c).After-apply-touched, c.loop-here.invariant.few))
+    (omega (arith, on, c.loop-here.invariant.few))
     is.long
 
 pub loop-here-preserved : goal.loop-here-preserved
 loop-here-preserved c =
+    let g = c.loop-here.invariant.all _ _ (from_between c.requires.2) in
+    let on = fewer c.loop-here.turn c.loop-here.next c.size-size.result c.loop-here.rest c.onward-rest.ensures (here g.now c.size-size.ensures c.if-size-eq0.false c.loop-here.text g.wide c.fetch.ensures).fewer in
     record {
       all = λ t os g₀.
           let is = c.loop-here.invariant.all t os g₀ in
@@ -144,8 +146,10 @@ loop-here-preserved c =
           let some = c.if-size-eq0.false in
           let housed = houses_read is.now told some c.loop-here.text is.wide c.fetch.ensures c.message-bytes.ensures in
           passes_so is.now told some c.loop-here.text is.wide c.fetch.ensures c.message-bytes.ensures (c.apply-touched.ensures t.next t.end (tabled is.now) housed) c.free.ensures c.onward-rest.ensures is.long c.if-touched.false;
-      few = omega (arith, fewer (goal.at.loop-here-preserved c).After-apply-touched, c.loop-here.invariant.few);
+      few = omega (arith, on, c.loop-here.invariant.few);
     }
 
 pub loop-here-smaller : goal.loop-here-smaller
-loop-here-smaller c = omega (arith, fewer (goal.at.loop-here-smaller c).After-apply-touched)
+loop-here-smaller c =
+    let g = c.loop-here.invariant.all _ _ (from_between c.requires.2) in
+    fewer c.loop-here.turn c.loop-here.next c.size-size.result c.loop-here.rest c.onward-rest.ensures (here g.now c.size-size.ensures c.if-size-eq0.false c.loop-here.text g.wide c.fetch.ensures).fewer
