@@ -26,9 +26,9 @@ use Rattle.book_room.proofs.adding.add.Goals as goal
 
 -- what is decided, by the look-up and the count
 module _ {room : List ℕ} {next end : ℕ} {b : Book} {number : ℕ} {s : List ℕ} (h : Houses room next end b number s)
-         {key : ℕ} {order : Found} {e : Effect} (type : type_in s ≡ 21) (value : key ≡ number_of (part s 7 14))
-         (looked : (next end : ℕ) (b : Book) → Lies room next end b → order ≡ key_at key (take b.live b.keys))
-         (is : (seen : Seen) → seen.order ≡ order → seen.live ≡ get_or room 2 0 → e ≡ effect_of seen (fields_of 21 s)) where
+    {key : ℕ} {order : Found} {e : Effect} (type : type_in s ≡ 21) (value : key ≡ number_of (part s 7 14))
+    (looked : (next end : ℕ) (b : Book) → Lies room next end b → order ≡ key_at key (take b.live b.keys))
+    (is : (seen : Seen) → seen.order ≡ order → seen.live ≡ get_or room 2 0 → e ≡ effect_of seen (fields_of 21 s)) where
   decided : Decided b s key (topic_of (message_in s)) e
   decided = decided-add s h.ready.kept type h.ready.whole value (looked next end b (lies h)) (live_at (filled (lies h))) is
 

@@ -20,7 +20,7 @@ use Rattle.book_room.proofs.changing.change.Goals as goal
 
 -- what is decided, by the look-up and what the order has
 module _ {room : List ℕ} {next end : ℕ} {b : Book} {number : ℕ} {s : List ℕ} {n : Name} {shares price : ℕ} (k : Known room next end b number s n shares price)
-         {e : Effect} (is : (seen : Seen) → seen.order ≡ n.order → seen.shares ≡ shares → seen.price ≡ price → e ≡ effect_of seen (message_in s)) where
+    {e : Effect} (is : (seen : Seen) → seen.order ≡ n.order → seen.shares ≡ shares → seen.price ≡ price → e ≡ effect_of seen (message_in s)) where
   decided : Decided b s n.key (topic_of (message_in s)) e
   decided = decided_change s k.houses.ready.kept k.houses.ready.whole k.named k.shares k.price is
 

@@ -25,10 +25,10 @@ use Rattle.book_room.proofs.telling.tell.Goals as goal
 
 -- what is decided, by the look-up, the count and the rule
 module _ {room : List ℕ} {next end : ℕ} {b : Book} {number : ℕ} {s : List ℕ} (h : Houses room next end b number s)
-         {inside : Found} {rule : OpeningRule} {e : Effect}
-         (looked : (next end : ℕ) (b : Book) → Lies room next end b → inside ≡ symbol_at (topic_of (message_in s)) (take b.held b.fronts) (take b.held b.backs))
-         (chosen : rule ≡ rule_by (get_or room 8 0))
-         (is : (seen : Seen) → seen.inside ≡ inside → seen.held ≡ get_or room 3 0 → seen.rule ≡ rule → e ≡ effect_of seen (message_in s)) where
+    {inside : Found} {rule : OpeningRule} {e : Effect}
+    (looked : (next end : ℕ) (b : Book) → Lies room next end b → inside ≡ symbol_at (topic_of (message_in s)) (take b.held b.fronts) (take b.held b.backs))
+    (chosen : rule ≡ rule_by (get_or room 8 0))
+    (is : (seen : Seen) → seen.inside ≡ inside → seen.held ≡ get_or room 3 0 → seen.rule ≡ rule → e ≡ effect_of seen (message_in s)) where
   decided : Decided b s (number_of (message_in s).id) (topic_of (message_in s)) e
   decided =
       decided_tell s h.ready.kept h.ready.whole

@@ -10,7 +10,7 @@ use borrow.Author.Rules.{rules}
 use Rattle.session.proofs.packets.burst.Goals as goal
 
 pub run-ran-requires : goal.run-ran-requires
-run-ran-requires c = 
+run-ran-requires c =
     record {
       ruled = c.requires;
       runs = burst_runs (view (held c.args.session c.args.room.now c.args.window.now)) c.args.packets.now c.args.answers.now c.args.count refl c.due_of-due.ensures (omega arith);

@@ -16,7 +16,7 @@ use Rattle.session.proofs.Engine.{going_starts, stored_put, stored_remove, waits
 use Rattle.session.proofs.running.run.Goals as goal
 
 module _ {t : Task} {s : List ℕ} {single : Bool} {os : List Order} {room window answers text : List ℕ} {before point : Point}
-         (came : Came t s single os room window answers text before point) where
+    (came : Came t s single os room window answers text before point) where
   over : not point.touches ≡ true → Over t s single os room window answers point
   over h = came.over (not-true point.touches h)
 

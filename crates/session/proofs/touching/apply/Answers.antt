@@ -30,8 +30,8 @@ tell-requires c =
       bytes_value =
           telling_kind c.args.bytes.now c.u8_at-kind.ensures
           (elim c.in_default.branch [
-            in_default-via-then-kind-lt21 w ↦ inl (omega arith)
-          | in_default-via-else-kind-lt21+else-kind-lt26 w ↦ inr (omega arith, omega arith)
+            | in_default-via-then-kind-lt21 w ↦ inl (omega arith)
+            | in_default-via-else-kind-lt21+else-kind-lt26 w ↦ inr (omega arith, omega arith)
           ]);
       by_index = c.requires;
     }

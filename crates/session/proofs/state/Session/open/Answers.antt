@@ -17,7 +17,7 @@ zeros n = replicate n 0
 pub returns : goal.returns
 returns c =
     let fresh =
-        opened_with c.args.number c.no_order-order.ensures
-        (c.clear.ensures ∙ ap zeros c.requires.numbers)
-        (c.free.ensures ∙ ap zeros c.requires.bytes) in
+    opened_with c.args.number c.no_order-order.ensures
+    (c.clear.ensures ∙ ap zeros c.requires.numbers)
+    (c.free.ensures ∙ ap zeros c.requires.bytes) in
     record { opened = fresh; rule = rule_of fresh (ruled_open Default c.args.number (omega arith)) }
