@@ -1,16 +1,11 @@
 -- The inside where the index has its symbol.
 -- Assumes nothing.
-use mathlib.Core.Path.{◌≡◌, ap, sym, ◌∙◌}
-use Prim.Native.Nat.{◌<◌}
-use native.Mathlib.Omega.{arith}
-use lib.ListN.{take}
-use Rattle.book.specs.Lookup.{symbol_at}
+use mathlib.Core.Path.{ap, sym, ◌∙◌}
 use Rattle.book.specs.declared.asking.InsideReply.{InsideReply}
 use Rattle.book.specs.declared.asking.Reply.TheVariants.{Known}
 use Rattle.book.specs.declared.tables.Inside.{Inside}
 use Rattle.book.proofs.Answers.{inside_bad, inside_known, inside_none, inside_within}
 use Rattle.session.proofs.Answers.{flag_small, inside_asked_lem, inside_there, lies, place_few, some_book, tabled}
-use borrow.Author.Rules.{rules}
 use Rattle.session.proofs.asking.inside.Goals as goal
 
 abbrev known : Inside → InsideReply

@@ -4,7 +4,6 @@ use mathlib.Core.Path.{ap, ◌∙◌}
 use mathlib.Core.List.{List}
 use Prim.Native.Nat.{ℕ}
 use lib.ListN.{length}
-use borrow.Author.Rules.{rules}
 use Rattle.window.specs.Runs.{asked_of, buffer_after}
 use Rattle.session.proofs.Calls.{gaps_same, numbered}
 use Rattle.session.proofs.asking.requests.Goals as goal

@@ -2,7 +2,6 @@
 -- Assumes nothing.
 use native.Mathlib.Omega.{arith}
 use Rattle.session.proofs.Calls.{counted, no_runs, not-below, some_applied, some_rule}
-use borrow.Author.Rules.{rules}
 use Rattle.session.proofs.packets.apply.Goals as goal
 
 pub run-ran-requires : goal.run-ran-requires

@@ -6,7 +6,6 @@ use native.Mathlib.Omega.{arith}
 use Rattle.session.proofs.Calls.{burst_is, burst_runs, bytes_are, count-is, rows_are, rule_packets}
 use Rattle.session.specs.Meaning.{held, view}
 use Rattle.window_taking.proofs.Passing.{bytes_of}
-use borrow.Author.Rules.{rules}
 use Rattle.session.proofs.packets.burst.Goals as goal
 
 pub run-ran-requires : goal.run-ran-requires

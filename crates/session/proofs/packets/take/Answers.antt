@@ -5,7 +5,6 @@ use native.Mathlib.Omega.{arith}
 use Rattle.session.specs.Meaning.{held, view}
 use Rattle.session.proofs.Calls.{answer_is, one_runs, rule_packets, taken_is, told_refusal}
 use Rattle.window_taking.proofs.Passing.{bytes_of}
-use borrow.Author.Rules.{rules}
 use Rattle.session.proofs.packets.take.Goals as goal
 
 pub run-ran-requires : goal.run-ran-requires

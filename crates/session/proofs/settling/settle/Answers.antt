@@ -1,19 +1,14 @@
 -- A message at hand by its type: an Add's order, or what its act comes to.
 -- Assumes nothing.
 use mathlib.Core.Path.{◌≡◌, refl, ◌∙◌, sym, subst}
-use mathlib.Core.Bool.{Bool}
 use mathlib.Core.List.{List}
 use Prim.Native.Nat.{ℕ, ◌-◌}
 use native.Mathlib.Omega.{arith}
 use Rattle.message.specs.Layouts.{type_in}
 use Rattle.message.specs.Whole.{Whole}
 use Rattle.book.specs.Applying.{Naming}
-use Rattle.book.specs.declared.tables.Order.{Order}
-use Rattle.book_room.specs.Arms.{Changed}
-use Rattle.session.specs.Engine.{AtHand, Names, Task}
 use Rattle.session.proofs.Dispatch.{of_kind}
 use Rattle.session.proofs.Engine.{asks, named, names_one, puts, settled_nothing, settled_put, settled_remove, settled_replace}
-use borrow.Author.Rules.{rules}
 use Rattle.session.proofs.settling.settle.Goals as goal
 
 -- a message that names an order

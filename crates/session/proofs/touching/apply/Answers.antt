@@ -8,7 +8,6 @@ use Rattle.message.specs.Layouts.{type_in}
 use Rattle.book.specs.Applying.{names}
 use Rattle.session.proofs.Dispatch.{naming_kind, of_kind, telling_kind}
 use Rattle.session.proofs.Engine.{lying, told_add, touched_named, touched_none, touched_put}
-use borrow.Author.Rules.{rules}
 use Rattle.session.proofs.touching.apply.Goals.{in_default-via-then-kind-lt21, in_default-via-else-kind-lt21+else-kind-lt26}
 use Rattle.session.proofs.touching.apply.Goals as goal
 

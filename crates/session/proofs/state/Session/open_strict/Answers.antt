@@ -4,7 +4,6 @@ use native.Mathlib.Omega.{arith}
 use Rattle.book.specs.declared.tables.OpeningRule.TheVariants.{Strict}
 use Rattle.session.proofs.Calls.{opened_strictly, rule_of}
 use Rattle.session.proofs.States.{ruled_open}
-use borrow.Author.Rules.{rules}
 use Rattle.session.proofs.state.Session.open_strict.Goals as goal
 
 pub returns : goal.returns
