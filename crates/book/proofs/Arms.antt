@@ -33,7 +33,7 @@ use Rattle.book.specs.Applying.{Seen, message_in, effect_of, execution_of, is_li
 use Rattle.book.specs.declared.lookup.Found.{Found}
 use Rattle.book.specs.declared.deciding.Effect.{Effect}
 use Rattle.book.specs.declared.tables.OpeningRule.{OpeningRule}
-use Rattle.book.specs.declared.deciding.Effect.TheVariants.{Put, Replace, Remove, Renew, Enter, Record, Unchanged, Fault, CountApart}
+use Rattle.book.specs.declared.deciding.Effect.TheVariants.{Put, Replace, Remove, Renew, Enter, Record, Unchanged, Fault}
 use Rattle.book.proofs.Types.{no}
 
 module _ (s : List ℕ) (seen : Seen) where

@@ -14,7 +14,6 @@ use lib.Seq.{get_or_at, get_or-set_same, get_or-set_other, map-set_same}
 use Rattle.wire.specs.Layout.{number_in}
 use Rattle.fields.specs.Id.{no_value, number_of, good_id}
 use Rattle.fields.specs.Rules.{good_symbol, good_side, good_quantity, good_price, good_inside_price, good_unsolicited, good_session}
-use Rattle.fields.proofs.Tests.{and_left, and_right}
 use Rattle.book_index.specs.Changes.{without}
 use Rattle.book_index.proofs.Laws.{map-without}
 use Rattle.book_index.proofs.Moves.{length_without, without_here, without_other}
@@ -26,7 +25,7 @@ use Rattle.message.specs.declared.kinds.Message.{Message}
 use Rattle.wire.specs.Number.{part}
 use Rattle.book.specs.Lookup.{front_of, back_of, same_symbol}
 use Rattle.book.specs.Tables.{Book, Tables, fresh, with_orders, with_insides, blank, gone, no_order, no_inside, ids_of, fronts_of, backs_of, rep, view}
-use Rattle.book.specs.Applying.{Seen, message_in, topic_of, seen_of, effect_in, carried, apply_of, order_of, inside_of, repriced, effect_of}
+use Rattle.book.specs.Applying.{Seen, message_in, topic_of, seen_of, effect_in, carried, apply_of, order_of, inside_of, repriced}
 use Rattle.book.specs.Named.{has_id, has_symbol}
 use Rattle.book.specs.Rule.{GoodOrder, GoodInside, Distinct, Apart, Sound, Kept, Ready}
 use Rattle.book.specs.declared.tables.Order.{Order}

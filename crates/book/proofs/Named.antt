@@ -16,7 +16,7 @@ use Rattle.message.specs.Row.{type_of, row_of}
 use Rattle.message.specs.declared.kinds.Message.{Message}
 use Rattle.book.specs.Lookup.{is_at, same_symbol}
 use Rattle.book.specs.Tables.{Tables, blank, gone}
-use Rattle.book.specs.Applying.{Seen, message_in, topic_of, there_of, order_seen, seen_of, names, is_listed, effect_in, effect_of, execution_of, change_of, carried, apply_of, order_of, inside_of, repriced}
+use Rattle.book.specs.Applying.{Seen, message_in, topic_of, there_of, order_seen, seen_of, names, is_listed, effect_in, execution_of, change_of, carried, apply_of, order_of, inside_of, repriced}
 use Rattle.book.specs.Named.{first_that, is_there, has_id, order_under, has_symbol, inside_under, is_fault, order_updated, order_executed, order_after, inside_after}
 use Rattle.book.specs.Rule.{Sound}
 use Rattle.book.specs.declared.tables.Order.{Order}

@@ -14,7 +14,7 @@ use Rattle.message.specs.Row.{fields_of, message_of, type_of}
 use Rattle.book.specs.Lookup.{is_at, place_found, front_of, back_of, key_at, symbol_at}
 use Rattle.book.specs.Tables.{Book, Tables, blank, no_order, places, ids_of, fronts_of, backs_of, holding_orders, holding_insides, holding_marks, holding_unlisted, rep, view}
 use Rattle.message.specs.Whole.{Whole}
-use Rattle.book.specs.Applying.{Seen, Naming, message_in, topic_of, there_of, seen_of, effect_in, carried, apply_of, order_of, inside_of, faulted, counted_apart, effect_of}
+use Rattle.book.specs.Applying.{Seen, Naming, message_in, topic_of, there_of, seen_of, effect_in, carried, apply_of, order_of, inside_of, faulted, counted_apart}
 use Rattle.book.specs.Rule.{Kept}
 use Rattle.message.specs.declared.kinds.Message.{Message}
 use Rattle.book.specs.declared.lookup.Found.{Found}

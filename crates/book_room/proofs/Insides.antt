@@ -1,7 +1,7 @@
 -- The insides that a room holds are those of the tables: six numbers each, and the symbol by its two numbers.
 -- Assumes nothing.
 use mathlib.Core.Path.{◌≡◌, refl, ap, ap₂, ◌∙◌, sym, subst}
-use mathlib.Core.Bool.{Bool, true, false, not, ◌&&◌, ◌||◌}
+use mathlib.Core.Bool.{Bool, true, false, not, ◌||◌}
 use mathlib.Core.List.{List, [], ◌∷◌, ◌++◌}
 use mathlib.Core.Logic.{by_cases}
 use Prim.Native.Nat.{ℕ, zero, suc, ◌+◌, ◌*◌, ◌≤◌, ◌<◌}
@@ -11,7 +11,7 @@ use borrow.Author.Tests.{eqb-true}
 use lib.Dec.{eqb, lit<}
 use lib.ListN.{length, get_or, drop, take, get_or-append, get_or-eq_default, length-drop, length-map, take-append-drop}
 use lib.Seq.{get_or-append-add, take_all}
-use Rattle.wire.specs.Number.{Bytes, be, num, part}
+use Rattle.wire.specs.Number.{Bytes}
 use Rattle.wire.proofs.Parts.{part_front}
 use Rattle.wire.proofs.Place.{be-part, part-is}
 use Rattle.fields.specs.Rules.{good_symbol, good_unsolicited, is_printable}
@@ -19,7 +19,7 @@ use Rattle.fields.specs.Tests.{either, first_all}
 use Rattle.fields.proofs.Tests.{all_fail, and_left, in_range}
 use Rattle.book.specs.Lookup.{back_of, front_of}
 use Rattle.book.specs.Rule.{GoodInside, Sound}
-use Rattle.book.specs.Tables.{Book, Tables, backs_of, fronts_of, gone, no_inside, places, rep}
+use Rattle.book.specs.Tables.{Book, Tables, backs_of, fronts_of, gone, no_inside, rep}
 use Rattle.book.specs.declared.tables.Inside.{Inside}
 use Rattle.book.proofs.Holding.{get_places}
 use Rattle.book.proofs.Keeping.{kept_rep}

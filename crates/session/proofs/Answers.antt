@@ -1,6 +1,6 @@
 -- What the rule gives to the questions: the book in the room, and the tables that a question is answered from.
 -- Assumes nothing.
-use mathlib.Core.Path.{◌≡◌, refl, ap, ◌∙◌, sym, subst}
+use mathlib.Core.Path.{◌≡◌, ap, ◌∙◌, sym, subst}
 use mathlib.Core.List.{List}
 use Prim.Native.Nat.{ℕ, ◌≤◌, ◌<◌}
 use native.Mathlib.Omega.{arith}
@@ -17,11 +17,10 @@ use Rattle.book.specs.declared.asking.OrderReply.{OrderReply}
 use Rattle.book.specs.declared.asking.Reply.TheVariants.{Known}
 use Rattle.book.specs.declared.lookup.Found.{Found}
 use Rattle.book.specs.declared.lookup.Found.TheVariants.{At, Nothing}
-use Rattle.book.specs.declared.tables.Inside.{Inside}
 use Rattle.book.specs.declared.tables.Order.{Order}
 use Rattle.book.proofs.Answers.{order_bad, order_known, order_none, order_within}
 use Rattle.book.proofs.Keeping as keeping
-use Rattle.book_room.specs.Room.{Lies, inside_at, insides_in, parts_of}
+use Rattle.book_room.specs.Room.{Lies, inside_at, insides_in}
 use Rattle.book_room.proofs.Insides as insides
 use Rattle.book_room.proofs.Lying.{filled, held_at, live_at, long}
 use Rattle.session.specs.Meaning.{Held, Meaning, Ruled, Sized, live_in, tables_in}

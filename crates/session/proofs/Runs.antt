@@ -9,16 +9,15 @@ use Prim.Native.Nat.{ℕ, zero, suc, ◌+◌, ◌-◌, ◌*◌, ◌%◌, ◌≤�
 use native.Mathlib.Decide.{dec_lt, ℕ_discrete}
 use native.Mathlib.Nat.{mod-lt}
 use native.Mathlib.Omega.{arith}
-use borrow.Author.Tests.{eq-eqb, eqb-false, eqb-true, ne_eqb}
+use borrow.Author.Tests.{eq-eqb, eqb-false, ne_eqb}
 use lib.Dec.{eqb}
-use lib.ListN.{length, get_or, take, set}
+use lib.ListN.{length, take, set}
 use lib.Seq.{length-take-le}
 use Rattle.wire.specs.Number.{Bytes, part, splice}
 use Rattle.wire.proofs.Place.{length-splice, part_bytes, splice_next, splice-none}
 use Rattle.merge.specs.State as merge
-use Rattle.merge.specs.State.{Packet, apply_up_to, end_of, freed_at, keep, kept_at, kept_if, step, take_all, take_if, take_one}
+use Rattle.merge.specs.State.{Packet, apply_up_to, freed_at, keep, kept_at, kept_if, step, take_all, take_if, take_one}
 use Rattle.merge.specs.Places.{InPlaces, number_at}
-use Rattle.merge.proofs.Clauses.{freed_other}
 use Rattle.merge.proofs.Lowest.{Settles, apply_enough, reach_settles, stuck}
 use Rattle.merge.proofs.Places.{held_place, step_put}
 use Rattle.merge.proofs.Window.{nothing_waits, waits_where}

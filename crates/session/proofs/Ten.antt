@@ -1,7 +1,7 @@
 -- Test 10 at the call: taking answers 10 exactly if the packet passes 1 to 9 and a message of it whose number waits is not
 -- equal to the waiting copy.
 -- Assumes nothing.
-use mathlib.Core.Path.{◌≡◌, refl, ap, ◌∙◌, sym, subst}
+use mathlib.Core.Path.{◌≡◌, ap, ◌∙◌, sym, subst}
 use mathlib.Core.Bool.{Bool, true, false, cond}
 use mathlib.Core.List.{List}
 use Prim.Native.Nat.{ℕ}

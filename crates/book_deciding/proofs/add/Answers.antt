@@ -2,7 +2,6 @@
 -- Assumes nothing.
 use mathlib.Core.Path.{◌∙◌}
 use Rattle.book.proofs.Arms.{add_is}
-use borrow.Author.Rules.{rules}
 use Rattle.book_deciding.proofs.add.Goals as goal
 
 pub returns : goal.returns

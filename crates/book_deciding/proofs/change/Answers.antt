@@ -2,7 +2,6 @@
 -- Assumes nothing.
 use mathlib.Core.Path.{◌≡◌, refl}
 use native.Mathlib.Omega.{arith}
-use borrow.Author.Rules.{rules}
 use Rattle.message.specs.Table.{payload_of}
 use Rattle.book.proofs.Arms.{typed}
 use Rattle.book.proofs.Types.{naming, last_named}

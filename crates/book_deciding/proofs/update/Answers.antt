@@ -2,7 +2,6 @@
 -- Assumes nothing.
 use mathlib.Core.Path.{◌∙◌}
 use Rattle.book.proofs.Arms.{update-is}
-use borrow.Author.Rules.{rules}
 use Rattle.book_deciding.proofs.update.Goals as goal
 
 pub returns : goal.returns

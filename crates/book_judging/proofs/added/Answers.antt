@@ -1,7 +1,6 @@
 -- The first of 2, 3 and 4 that holds, or the order goes behind the last one.
 -- Assumes nothing.
 use borrow.Author.Tests.{le-leb, lt-leb}
-use borrow.Author.Rules.{rules}
 use Rattle.book_judging.proofs.added.Goals as goal
 
 pub returns-then-live-ge-ORDERS : goal.returns-then-live-ge-ORDERS

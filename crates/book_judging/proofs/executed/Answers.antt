@@ -1,7 +1,6 @@
 -- The first of 2, 5, 6 and 7 that holds, or what is left of the order.
 -- Assumes nothing.
 use borrow.Author.Tests.{lt-ltb, le-ltb, eq-eqb, ne_eqb}
-use borrow.Author.Rules.{rules}
 use Rattle.book_judging.proofs.executed.Goals as goal
 
 pub returns-then-shares-executed : goal.returns-then-shares-executed

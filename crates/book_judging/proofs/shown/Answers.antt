@@ -1,7 +1,6 @@
 -- 2 or 8 where it holds, or the place of the inside.
 -- Assumes nothing.
 use borrow.Author.Tests.{le-leb, lt-leb}
-use borrow.Author.Rules.{rules}
 use Rattle.book_judging.proofs.shown.Goals as goal
 
 pub returns-then-held-ge-INSIDES : goal.returns-then-held-ge-INSIDES

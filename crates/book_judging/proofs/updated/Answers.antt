@@ -1,6 +1,5 @@
 -- 2 or 5 where it holds, or the change at the place that the look-up found.
 -- Assumes nothing.
-use borrow.Author.Rules.{rules}
 use Rattle.book_judging.proofs.updated.Goals as goal
 
 pub returns : goal.returns

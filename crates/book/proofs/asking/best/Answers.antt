@@ -1,12 +1,8 @@
 -- `best` goes from the last order to the first: the level is that of the orders behind.
 -- Assumes nothing.
-use mathlib.Core.Path.{◌≡◌}
-use mathlib.Core.List.{List}
-use Prim.Native.Nat.{ℕ, ◌≤◌}
+use Prim.Native.Nat.{◌≤◌}
 use native.Mathlib.Omega.{arith}
-use borrow.Author.Rules.{rules}
-use Rattle.book.specs.Lookup.{Apart}
-use Rattle.book.proofs.Answers.{Going, best_all, best_reply, best_room, best_start, best_step, due_few}
+use Rattle.book.proofs.Answers.{best_all, best_reply, best_room, best_start, best_step, due_few}
 use Rattle.book.proofs.asking.best.Goals as goal
 
 within : (c : goal.In-loop-k) → c.loop-k.k ≤ 256

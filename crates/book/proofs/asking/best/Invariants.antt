@@ -1,12 +1,9 @@
 -- `best` goes from the last order to the first: the level is that of the orders behind.
 -- Assumes nothing.
-use mathlib.Core.Path.{◌≡◌}
 use mathlib.Core.List.{List}
-use Prim.Native.Nat.{ℕ, ◌≤◌}
-use native.Mathlib.Omega.{arith}
-use borrow.Author.Rules.{rules}
+use Prim.Native.Nat.{ℕ}
 use Rattle.book.specs.Lookup.{Apart}
-use Rattle.book.proofs.Answers.{Going, best_all, best_reply, best_room, best_start, best_step, due_few}
+use Rattle.book.proofs.Answers.{Going}
 use Rattle.book.proofs.asking.best.Given as goal
 
 abbrev pub invariant-loop-k : goal.invariant-loop-k

@@ -1,7 +1,6 @@
 -- Both the symbol and the side.
 -- Assumes nothing.
 use mathlib.Core.Path.{◌∙◌, sym}
-use borrow.Author.Rules.{rules}
 use Rattle.book.proofs.asking.good_question.Goals as goal
 
 pub returns-then-good_symbol : goal.returns-then-good_symbol

@@ -1,6 +1,5 @@
 -- No inside stands beside a refusal.
 -- Assumes nothing.
-use borrow.Author.Rules.{rules}
 use Rattle.book.proofs.asking.no_inside_for.Goals as goal
 
 pub returns : goal.returns

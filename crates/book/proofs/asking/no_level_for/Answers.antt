@@ -1,6 +1,5 @@
 -- No level stands beside a refusal.
 -- Assumes nothing.
-use borrow.Author.Rules.{rules}
 use Rattle.book.proofs.asking.no_level_for.Goals as goal
 
 pub returns : goal.returns

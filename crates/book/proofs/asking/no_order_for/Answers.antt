@@ -1,6 +1,5 @@
 -- No order stands beside a refusal.
 -- Assumes nothing.
-use borrow.Author.Rules.{rules}
 use Rattle.book.proofs.asking.no_order_for.Goals as goal
 
 pub returns : goal.returns

@@ -1,7 +1,6 @@
 -- Three numbers; that bytes are below 256 keeps two of them below 65536.
 -- Assumes nothing.
 use native.Mathlib.Omega.{arith}
-use borrow.Author.Rules.{rules}
 use Rattle.book.proofs.lookup.parts_in.Goals as goal
 
 pub returns : goal.returns

@@ -3,7 +3,6 @@
 use Rattle.message.specs.Layouts.{layout_of}
 use Rattle.message.specs.Row.{fields_of, message_of}
 use Rattle.book.specs.Applying.{inside_of}
-use borrow.Author.Rules.{rules}
 use Rattle.book_deciding.proofs.reading.inside_of.Goals as goal
 
 pub returns : goal.returns

@@ -3,7 +3,6 @@
 use mathlib.Core.Path.{◌∙◌, ap}
 use Rattle.fields.specs.Id.{number_of}
 use Rattle.message.specs.declared.layouts.Named.{Named}
-use borrow.Author.Rules.{rules}
 use Rattle.book_deciding.proofs.reading.key_at.Goals as goal
 
 pub returns : goal.returns

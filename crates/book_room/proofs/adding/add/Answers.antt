@@ -5,7 +5,6 @@ use mathlib.Core.List.{List}
 use Prim.Native.Nat.{ℕ}
 use native.Mathlib.Omega.{arith}
 use lib.ListN.{get_or, take}
-use borrow.Author.Rules.{rules}
 use Rattle.wire.specs.Number.{part}
 use Rattle.fields.specs.Id.{number_of}
 use Rattle.book.specs.Applying.{Seen, effect_of, message_in, topic_of}

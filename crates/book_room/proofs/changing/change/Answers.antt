@@ -4,7 +4,6 @@
 use mathlib.Core.Path.{◌≡◌, ap}
 use mathlib.Core.List.{List}
 use Prim.Native.Nat.{ℕ}
-use borrow.Author.Rules.{rules}
 use Rattle.book.specs.Applying.{Seen, effect_of, message_in, topic_of}
 use Rattle.book.specs.Tables.{Book}
 use Rattle.book.specs.declared.deciding.Effect.{Effect}

@@ -3,7 +3,6 @@
 use mathlib.Core.Path.{ap, ◌∙◌}
 use Prim.Native.Nat.{ℕ}
 use lib.ListN.{take}
-use borrow.Author.Rules.{rules}
 use Rattle.book.specs.Lookup.{key_at}
 use Rattle.book.proofs.Types.{names_id, names_room}
 use Rattle.book_room.proofs.changing.named.Goals as goal

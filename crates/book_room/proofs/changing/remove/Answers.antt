@@ -2,7 +2,6 @@
 -- Assumes nothing.
 use native.Mathlib.Omega.{arith}
 use lib.ListN.{length-set}
-use borrow.Author.Rules.{rules}
 use Rattle.book_room.proofs.Lying.{live_at, long}
 use Rattle.book_room.proofs.Writes.{gone_long, remove_asks, remove_done}
 use Rattle.book_room.proofs.changing.remove.Goals as goal

@@ -1,7 +1,6 @@
 -- The place that the index tells.
 -- Assumes nothing.
 use native.Mathlib.Omega.{arith}
-use borrow.Author.Rules.{rules}
 use Rattle.book_room.proofs.Finds.{found_there, last_in, nowhere, unnamed}
 use Rattle.book_room.proofs.Lying.{filled, ids_apart, indexed, long}
 use Rattle.book_room.proofs.finding.found.Goals as goal

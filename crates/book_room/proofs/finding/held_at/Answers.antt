@@ -1,7 +1,6 @@
 -- The place that the index of symbols tells.
 -- Assumes nothing.
 use native.Mathlib.Omega.{arith}
-use borrow.Author.Rules.{rules}
 use Rattle.book_room.proofs.Finds.{held_same, held_there, no_symbol, not-held, pair_in}
 use Rattle.book_room.proofs.Lying.{filled, long, paired, symbols_apart}
 use Rattle.book_room.proofs.finding.held_at.Goals as goal

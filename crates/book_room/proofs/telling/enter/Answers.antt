@@ -4,7 +4,6 @@ use mathlib.Core.Path.{ap₂, ◌∙◌}
 use Prim.Native.Nat.{ℕ, ◌+◌}
 use native.Mathlib.Omega.{arith}
 use lib.ListN.{length-set, set}
-use borrow.Author.Rules.{rules}
 use Rattle.book.specs.Tables.{holding_insides}
 use Rattle.book_room.specs.Room.{room_of}
 use Rattle.book_room.proofs.Lying.{long}

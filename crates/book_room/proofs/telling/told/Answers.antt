@@ -4,7 +4,6 @@ use mathlib.Core.Path.{ap, refl, sym, ◌∙◌}
 use mathlib.Core.List.{List}
 use Prim.Native.Nat.{ℕ}
 use lib.ListN.{take}
-use borrow.Author.Rules.{rules}
 use Rattle.message.specs.Row.{no_text}
 use Rattle.book.specs.Lookup.{symbol_at}
 use Rattle.book.specs.declared.tables.Inside.{Inside}

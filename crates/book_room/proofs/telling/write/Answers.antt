@@ -2,7 +2,6 @@
 -- Assumes nothing.
 use native.Mathlib.Omega.{arith}
 use lib.ListN.{length-set}
-use borrow.Author.Rules.{rules}
 use Rattle.book_room.proofs.Lying.{long}
 use Rattle.book_room.proofs.Writes.{write_done}
 use Rattle.book_room.proofs.telling.write.Goals as goal

@@ -3,7 +3,6 @@
 use mathlib.Core.Path.{ap, sym}
 use mathlib.Core.Bool.{Bool, cond}
 use borrow.Author.Tests.{eq-eqb, ne_eqb}
-use borrow.Author.Rules.{rules}
 use Rattle.book.specs.declared.tables.OpeningRule.{OpeningRule}
 use Rattle.book.specs.declared.tables.OpeningRule.TheVariants.{Default, Strict}
 use Rattle.book_room.proofs.unlisted.rule_in.Goals as goal

@@ -4,7 +4,6 @@ use mathlib.Core.Path.{ap, ◌∙◌}
 use Rattle.window_taking.specs.declared.burst.Turn.{Turn}
 use Rattle.session.specs.Meaning.{next_in}
 use Rattle.session.specs.Engine.{between_of}
-use borrow.Author.Rules.{rules}
 use Rattle.session.proofs.advancing.begin.Goals as goal
 
 pub returns : goal.returns

@@ -1,7 +1,6 @@
 -- Handed on, with the order table.
 -- Assumes nothing.
 use Rattle.session.proofs.Answers.{live_few, orders_long}
-use borrow.Author.Rules.{rules}
 use Rattle.session.proofs.asking.best.Goals as goal
 
 pub best-requires : goal.best-requires

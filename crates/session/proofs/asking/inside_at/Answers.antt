@@ -5,7 +5,6 @@ use mathlib.Core.List.{List}
 use Prim.Native.Nat.{ℕ, ◌+◌, ◌*◌}
 use lib.ListN.{get_or}
 use Rattle.book.specs.declared.tables.Inside.{Inside}
-use borrow.Author.Rules.{rules}
 use Rattle.session.proofs.asking.inside_at.Goals as goal
 
 abbrev named : List ℕ → ℕ → List ℕ → Inside

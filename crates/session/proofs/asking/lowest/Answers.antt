@@ -2,7 +2,6 @@
 -- Assumes nothing.
 use native.Mathlib.Omega.{arith}
 use Rattle.session.proofs.Calls.{lowest_is, numbered}
-use borrow.Author.Rules.{rules}
 use Rattle.session.proofs.asking.lowest.Goals as goal
 
 pub returns : goal.returns

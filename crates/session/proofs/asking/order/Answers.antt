@@ -4,7 +4,6 @@ use mathlib.Core.Path.{◌∙◌}
 use Prim.Native.Nat.{◌<◌}
 use native.Mathlib.Omega.{arith}
 use Rattle.session.proofs.Answers.{bad_asked, known_asked, none_asked, orders_long, some_book, order_few}
-use borrow.Author.Rules.{rules}
 use Rattle.session.proofs.asking.order.Goals as goal
 
 small : (c : goal.In-At) → c.in-At.place < 256

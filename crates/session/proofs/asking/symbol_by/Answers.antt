@@ -4,7 +4,6 @@ use mathlib.Core.Path.{ap, ◌∙◌}
 use mathlib.Core.List.{List}
 use Prim.Native.Nat.{ℕ}
 use Rattle.wire.specs.Number.{be, splice}
-use borrow.Author.Rules.{rules}
 use Rattle.session.proofs.asking.symbol_by.Goals as goal
 
 pub returns : goal.returns

@@ -1,6 +1,5 @@
 -- The answer by its two numbers.
 -- Assumes nothing.
-use borrow.Author.Rules.{rules}
 use Rattle.session.proofs.Calls.{answer_none, answer_some}
 use Rattle.session.proofs.packets.answer_by.Goals as goal
 

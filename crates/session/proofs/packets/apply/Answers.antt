@@ -2,11 +2,10 @@
 -- Assumes nothing.
 use native.Mathlib.Omega.{arith}
 use Rattle.session.proofs.Calls.{counted, no_runs, not-below, some_applied, some_rule}
-use borrow.Author.Rules.{rules}
 use Rattle.session.proofs.packets.apply.Goals as goal
 
 pub run-ran-requires : goal.run-ran-requires
-run-ran-requires c = (c.requires, no_runs)
+run-ran-requires c = record { ruled = c.requires; runs = no_runs }
 
 pub overflow_sub-result : goal.overflow_sub-result
 overflow_sub-result c = omega (arith, not-below c.requires _ c.args.count c.most_due-due.ensures c.run-ran.ensures.held)
@@ -17,4 +16,4 @@ returns c =
     let count = c.args.count in
     let due = c.most_due-due.ensures in
     let is = c.run-ran.ensures.held in
-    (some_applied rule _ count due is, (counted rule _ count due is, some_rule rule _ count due is))
+    record { applied = some_applied rule _ count due is; count = counted rule _ count due is; rule = some_rule rule _ count due is }

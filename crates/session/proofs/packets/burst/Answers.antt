@@ -6,11 +6,14 @@ use native.Mathlib.Omega.{arith}
 use Rattle.session.proofs.Calls.{burst_is, burst_runs, bytes_are, count-is, rows_are, rule_packets}
 use Rattle.session.specs.Meaning.{held, view}
 use Rattle.window_taking.proofs.Passing.{bytes_of}
-use borrow.Author.Rules.{rules}
 use Rattle.session.proofs.packets.burst.Goals as goal
 
 pub run-ran-requires : goal.run-ran-requires
-run-ran-requires c = (c.requires, burst_runs (view (held c.args.session c.args.room.now c.args.window.now)) c.args.packets.now c.args.answers.now c.args.count refl c.due_of-due.ensures (omega arith))
+run-ran-requires c =
+    record {
+      ruled = c.requires;
+      runs = burst_runs (view (held c.args.session c.args.room.now c.args.window.now)) c.args.packets.now c.args.answers.now c.args.count refl c.due_of-due.ensures (omega arith);
+    }
 
 pub returns : goal.returns
 returns c =
@@ -20,5 +23,11 @@ returns c =
     let most = c.args.count in
     let due = c.due_of-due.ensures in
     let ran = c.run-ran.ensures in
-    let rule = rule_packets c.requires false packets c.due_of-due.result (bytes_of packets (λ i. omega (arith, c.shared_slice_known-1.given i))) ran.0 in
-    (burst_is x packets answers most refl due ran.0, (count-is x packets answers most refl due ran.1.1.0 c.count_of.ensures, (bytes_are x packets answers most refl due ran.1.1.1, (rows_are x packets answers most refl due ran.1.0, rule))))
+    let rule = rule_packets c.requires false packets c.due_of-due.result (bytes_of packets (λ i. omega (arith, c.type_inv.packets i))) ran.held in
+    record {
+      taken = burst_is x packets answers most refl due ran.held;
+      count = count-is x packets answers most refl due ran.taken c.count_of.ensures;
+      bytes = bytes_are x packets answers most refl due ran.at;
+      answers = rows_are x packets answers most refl due ran.answers;
+      rule = rule;
+    }

@@ -3,7 +3,6 @@
 use mathlib.Core.Path.{ap, sym}
 use mathlib.Core.Bool.{Bool}
 use Rattle.session.specs.Bursts.{count_if}
-use borrow.Author.Rules.{rules}
 use Rattle.session.proofs.packets.count_of.Goals as goal
 
 pub returns-then-fits : goal.returns-then-fits

@@ -2,9 +2,7 @@
 -- Assumes nothing.
 use Prim.Native.Nat.{◌-◌}
 use native.Mathlib.Omega.{arith}
-use lib.ListN.{length}
-use Rattle.session.proofs.Cleared.{Cleared, cleared_all, cleared_more, cleared_none}
-use borrow.Author.Rules.{rules}
+use Rattle.session.proofs.Cleared.{cleared_all, cleared_more, cleared_none}
 use Rattle.session.proofs.state.clear.Goals as goal
 
 pub loop-k-init : goal.loop-k-init

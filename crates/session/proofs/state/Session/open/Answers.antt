@@ -1,14 +1,13 @@
 -- A fresh session, with what is lent filled: the one for the empty meaning.
 -- Assumes nothing.
-use mathlib.Core.Path.{◌≡◌, ap, ◌∙◌}
+use mathlib.Core.Path.{ap, ◌∙◌}
 use mathlib.Core.List.{List}
 use Prim.Native.Nat.{ℕ}
 use native.Mathlib.Omega.{arith}
-use lib.ListN.{length, replicate}
+use lib.ListN.{replicate}
 use Rattle.book.specs.declared.tables.OpeningRule.TheVariants.{Default}
 use Rattle.session.proofs.Calls.{opened_with, rule_of}
 use Rattle.session.proofs.States.{ruled_open}
-use borrow.Author.Rules.{rules}
 use Rattle.session.proofs.state.Session.open.Goals as goal
 
 abbrev zeros : ℕ → List ℕ
@@ -20,4 +19,4 @@ returns c =
     opened_with c.args.number c.no_order-order.ensures
     (c.clear.ensures ∙ ap zeros c.requires.numbers)
     (c.free.ensures ∙ ap zeros c.requires.bytes) in
-    (fresh, rule_of fresh (ruled_open Default c.args.number (omega arith)))
+    record { opened = fresh; rule = rule_of fresh (ruled_open Default c.args.number (omega arith)) }
