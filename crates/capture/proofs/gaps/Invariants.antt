@@ -6,7 +6,7 @@ use borrow.Author.Rules.{rules}
 use Rattle.capture.proofs.gaps.Given as goal
 
 abbrev pub invariant-loop-left : goal.invariant-loop-left
-invariant-loop-left l = length l.out ≡ 8192
+invariant-loop-left g l = length l.out ≡ 8192
 
 abbrev pub decreases-loop-left : goal.decreases-loop-left
-decreases-loop-left l = l.left
+decreases-loop-left g l = l.left

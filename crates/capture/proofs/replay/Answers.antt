@@ -10,7 +10,7 @@ use borrow.Author.Rules.{rules}
 use Rattle.capture.proofs.replay.Goals as goal
 
 pub loop-size-preserved : goal.loop-size-preserved
-loop-size-preserved c =
+loop-size-preserved g c =
     let call = c.take-taken.ensures in
     let before = c.loop-size.invariant in
     (taken_strictly _ before.0 call.0 call.1.1, search rules, search rules)

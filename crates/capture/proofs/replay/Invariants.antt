@@ -10,7 +10,7 @@ use borrow.Author.Rules.{rules}
 use Rattle.capture.proofs.replay.Given as goal
 
 abbrev pub invariant-loop-size : goal.invariant-loop-size
-invariant-loop-size l = Strictly (held l.session l.room l.window) × (l.at ≤ length l.bytes) × (length l.out ≡ 8192)
+invariant-loop-size g l = Strictly (held l.session l.room l.window) × (l.at ≤ length l.bytes) × (length l.out ≡ 8192)
 
 abbrev pub decreases-loop-size : goal.decreases-loop-size
-decreases-loop-size l = length l.bytes - l.at
+decreases-loop-size g l = length l.bytes - l.at

@@ -5,7 +5,7 @@ use borrow.Author.Rules.{rules}
 use Rattle.desk.proofs.walks.walk_in.Given as goal
 
 abbrev pub invariant-loop-k : goal.invariant-loop-k
-invariant-loop-k l = l.k ≤ 255
+invariant-loop-k g l = l.k ≤ 255
 
 abbrev pub decreases-loop-k : goal.decreases-loop-k
-decreases-loop-k l = 255 - l.k
+decreases-loop-k g l = 255 - l.k

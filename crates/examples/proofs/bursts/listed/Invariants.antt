@@ -6,7 +6,7 @@ use lib.ListN.{length}
 use Rattle.examples.proofs.bursts.listed.Given as goal
 
 abbrev pub invariant-loop-k : goal.invariant-loop-k
-invariant-loop-k l = l.k ≤ length l.list
+invariant-loop-k g l = l.k ≤ length l.list
 
 abbrev pub decreases-loop-k : goal.decreases-loop-k
-decreases-loop-k l = length l.list - l.k
+decreases-loop-k g l = length l.list - l.k

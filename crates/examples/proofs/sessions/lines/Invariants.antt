@@ -7,7 +7,7 @@ use borrow.Author.Rules.{rules}
 use Rattle.examples.proofs.sessions.lines.Given as goal
 
 abbrev pub invariant-loop-from : goal.invariant-loop-from
-invariant-loop-from l = Ruled (held l.session l.room l.window)
+invariant-loop-from g l = Ruled (held l.session l.room l.window)
 
 abbrev pub decreases-loop-from : goal.decreases-loop-from
-decreases-loop-from l = length l.table - l.from
+decreases-loop-from g l = length l.table - l.from

@@ -5,7 +5,7 @@ use Prim.Native.Nat.{◌≤◌, ◌-◌}
 use Rattle.examples_cases.proofs.sweeps.sweep.Given as goal
 
 abbrev pub invariant-loop-k : goal.invariant-loop-k
-invariant-loop-k l = l.k ≤ 256
+invariant-loop-k g l = l.k ≤ 256
 
 abbrev pub decreases-loop-k : goal.decreases-loop-k
-decreases-loop-k l = 256 - l.k
+decreases-loop-k g l = 256 - l.k

@@ -6,7 +6,7 @@ use borrow.Author.Rules.{rules}
 use Rattle.examples_cases.proofs.tables.run.Given as goal
 
 abbrev pub invariant-loop-from : goal.invariant-loop-from
-invariant-loop-from l = Unit {0}
+invariant-loop-from g l = Unit {0}
 
 abbrev pub decreases-loop-from : goal.decreases-loop-from
-decreases-loop-from l = length l.lines - l.from
+decreases-loop-from g l = length l.lines - l.from
