@@ -11,16 +11,6 @@ use Rattle.session_quotes.proofs.Quests.{sought_none, sought_some, standing_bad,
 use borrow.Author.Rules.{rules}
 use Rattle.session_quotes.proofs.questions.seek.Goals as goal
 
-standing : (c : goal.At-loop-k invariant-loop decreases-loop) → Standing c.requires.0 c.args.asked.now c.requires.1 c.loop-k.replies c.loop-k.k c.args.count
-standing c = c.loop-k.invariant.0 _ _ c.requires.2
-
--- the question lies in the bytes, and its reply in the list
-inside : (c : goal.In-loop-k invariant-loop decreases-loop) → 15 * c.loop-k.k + 15 ≤ length c.args.asked.now
-inside c = standing_inside _ _ _ (standing c.before) c.loop-k-test.true
-
-room : (c : goal.In-loop-k invariant-loop decreases-loop) → 4 * c.loop-k.k + 4 ≤ length c.loop-k.replies
-room c = standing_room _ _ _ (standing c.before) c.loop-k-test.true
-
 pub returns-then-good_question : goal.returns-then-good_question
 returns-then-good_question c t whole stands = sought_some t _ whole (c.loop-k.invariant.0 t whole stands) c.loop-k.invariant.1 c.loop-k-test.true c.text14_at-symbol.ensures c.good_question.ensures c.if-good_question.true c.parts_of-parts.ensures
 
@@ -38,25 +28,25 @@ pub loop-k-init : goal.loop-k-init
 loop-k-init c = ((λ t whole stands. stands), omega arith, refl)
 
 pub overflow_mul-at : goal.overflow_mul-at
-overflow_mul-at c = omega (arith, inside c)
+overflow_mul-at c = omega (arith, standing_inside _ _ _ (c.loop-k.invariant.0 _ _ c.requires.2) c.loop-k-test.true)
 
 pub text14_at-symbol-requires : goal.text14_at-symbol-requires
-text14_at-symbol-requires c = omega (arith, inside c)
+text14_at-symbol-requires c = omega (arith, standing_inside _ _ _ (c.loop-k.invariant.0 _ _ c.requires.2) c.loop-k-test.true)
 
 pub overflow_add-side : goal.overflow_add-side
-overflow_add-side c = omega (arith, inside c.before)
+overflow_add-side c = omega (arith, standing_inside _ _ _ (c.loop-k.invariant.0 _ _ c.requires.2) c.loop-k-test.true)
 
 pub bounds-asked-at : goal.bounds-asked-at
-bounds-asked-at c = omega (arith, inside c.before.before)
+bounds-asked-at c = omega (arith, standing_inside _ _ _ (c.loop-k.invariant.0 _ _ c.requires.2) c.loop-k-test.true)
 
 pub shape_of-replies-then-good_question : goal.shape_of-replies-then-good_question
 shape_of-replies-then-good_question c = c.loop-k.invariant.2
 
 pub overflow_mul-k : goal.overflow_mul-k
-overflow_mul-k c = omega (arith, room c.before.before.before.before.before)
+overflow_mul-k c = omega (arith, standing_room _ _ _ (c.loop-k.invariant.0 _ _ c.requires.2) c.loop-k-test.true)
 
 pub put-requires : goal.put-requires
-put-requires c = room c.before.before.before.before.before.before.before
+put-requires c = standing_room _ _ _ (c.loop-k.invariant.0 _ _ c.requires.2) c.loop-k-test.true
 
 pub overflow_add-k : goal.overflow_add-k
 overflow_add-k c = omega (arith, c.loop-k-test.true)
