@@ -5,7 +5,7 @@ use Rattle.book.proofs.lookup.parts_in.Goals as goal
 
 pub returns : goal.returns
 returns c =
-    let byte = c.shared_slice_known-1.given in
+    let byte = c.type_inv.symbol in
     record {
       first = c.u64_at.ensures;
       middle = c.u32_at.ensures;
