@@ -1,7 +1,6 @@
 -- The fields of a header, by cases of the answer.
 -- Assumes nothing.
 use Rattle.single.proofs.Cases.{header_by}
-use borrow.Author.Rules.{rules}
 use Rattle.single.proofs.headers.read.Goals as goal
 
 pub returns-in-Fields : goal.returns-in-Fields

@@ -2,7 +2,6 @@
 -- Assumes nothing.
 use mathlib.Core.Path.{◌∙◌, ap}
 use Rattle.single.specs.Told.{written_refusal}
-use borrow.Author.Rules.{rules}
 use Rattle.single.proofs.headers.write.Goals as goal
 
 pub returns : goal.returns

@@ -1,7 +1,6 @@
 -- The value of an id, by cases of the answer.
 -- Assumes nothing.
 use Rattle.single.proofs.Cases.{value_by}
-use borrow.Author.Rules.{rules}
 use Rattle.single.proofs.ids.value.Goals as goal
 
 pub returns-in-Value : goal.returns-in-Value

@@ -1,10 +1,7 @@
 -- The fields put: what is left to put, from where the loop is, is the whole of it.
 -- Assumes nothing.
-use mathlib.Core.Bool.{true≢false}
 use Prim.Native.Nat.{◌-◌}
-use native.Mathlib.Omega.{arith}
-use Rattle.single.proofs.Steps.{Filling, fill_all, fill_fits, fill_good, fill_more, fill_none, fill_wide, fits, width}
-use borrow.Author.Rules.{rules}
+use Rattle.single.proofs.Steps.{Filling}
 use Rattle.single.proofs.messages.fill.Given as goal
 
 abbrev pub invariant-loop-k : goal.invariant-loop-k

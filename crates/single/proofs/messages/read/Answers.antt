@@ -1,7 +1,6 @@
 -- A message told, by cases of what reading gives.
 -- Assumes nothing.
 use Rattle.single.proofs.Laying.{read_accepted, read_laid, read_refused}
-use borrow.Author.Rules.{rules}
 use Rattle.single.proofs.messages.read.Goals as goal
 
 pub tell-requires : goal.tell-requires

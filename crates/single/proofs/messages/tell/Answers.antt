@@ -1,11 +1,10 @@
 -- The type and the fields, by the widths of the type.
 -- Assumes nothing.
-use mathlib.Core.Path.{◌≡◌, ap, ◌∙◌, sym, subst}
+use mathlib.Core.Path.{ap, ◌∙◌, sym, subst}
 use lib.ListN.{length}
 use Rattle.single.specs.Words.{words_of, Laid}
 use Rattle.single.specs.declared.words.Words.{Words}
 use Rattle.single.proofs.Laying.{tell_is}
-use borrow.Author.Rules.{rules}
 use Rattle.single.proofs.messages.tell.Goals as goal
 
 pub tell_fields-requires : goal.tell_fields-requires

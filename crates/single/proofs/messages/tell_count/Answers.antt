@@ -1,7 +1,6 @@
 -- How many bytes were written, or the refusal, by cases of the answer.
 -- Assumes nothing.
 use Rattle.single.proofs.Cases.{written_by}
-use borrow.Author.Rules.{rules}
 use Rattle.single.proofs.messages.tell_count.Goals as goal
 
 pub returns-in-Count : goal.returns-in-Count

@@ -1,9 +1,7 @@
 -- The fields told: what is left to tell, from where the loop is, is the whole of it.
 -- Assumes nothing.
 use Prim.Native.Nat.{◌-◌}
-use native.Mathlib.Omega.{arith}
-use Rattle.single.proofs.Steps.{Telling, fits, tell_all_lem, tell_more, tell_none, width}
-use borrow.Author.Rules.{rules}
+use Rattle.single.proofs.Steps.{Telling}
 use Rattle.single.proofs.messages.tell_fields.Given as goal
 
 abbrev pub invariant-loop-k : goal.invariant-loop-k

@@ -1,7 +1,6 @@
 -- A message written from its numbers, by whether all of them fit.
 -- Assumes nothing.
 use Rattle.single.proofs.Giving.{field_wide, filled, given_written, type_wide, words_laid}
-use borrow.Author.Rules.{rules}
 use Rattle.single.proofs.messages.write.Goals as goal
 
 pub returns-then-first-ge256 : goal.returns-then-first-ge256

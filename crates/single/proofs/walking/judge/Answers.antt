@@ -4,7 +4,6 @@ use mathlib.Core.Path.{ap}
 use mathlib.Core.List.{[], ◌∷◌}
 use Rattle.packet.specs.declared.header.Judged.{Judged}
 use Rattle.single.specs.Over.{over}
-use borrow.Author.Rules.{rules}
 use Rattle.single.proofs.walking.judge.Goals as goal
 
 pub returns : goal.returns

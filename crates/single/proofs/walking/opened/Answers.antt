@@ -2,7 +2,6 @@
 -- Assumes nothing.
 use mathlib.Core.Path.{◌∙◌}
 use Rattle.single.proofs.Taking.{eight, others}
-use borrow.Author.Rules.{rules}
 use Rattle.single.proofs.walking.opened.Goals as goal
 
 pub returns-then-said-eq8 : goal.returns-then-said-eq8

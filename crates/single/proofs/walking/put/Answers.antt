@@ -2,8 +2,7 @@
 -- Assumes nothing.
 use native.Mathlib.Omega.{arith}
 use lib.ListN.{length-set}
-use Rattle.single.proofs.Taking.{Taking, all, here, more, none}
-use borrow.Author.Rules.{rules}
+use Rattle.single.proofs.Taking.{all, here, more, none}
 use Rattle.single.proofs.walking.put.Goals as goal
 
 pub loop-left-init : goal.loop-left-init

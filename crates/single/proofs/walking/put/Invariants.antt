@@ -1,9 +1,6 @@
 -- Where each message lies goes over the list: what is left of it, from where the loop is, is the whole of it.
 -- Assumes nothing.
-use native.Mathlib.Omega.{arith}
-use lib.ListN.{length-set}
-use Rattle.single.proofs.Taking.{Taking, all, here, more, none}
-use borrow.Author.Rules.{rules}
+use Rattle.single.proofs.Taking.{Taking}
 use Rattle.single.proofs.walking.put.Given as goal
 
 abbrev pub invariant-loop-left : goal.invariant-loop-left

@@ -2,7 +2,6 @@
 -- Assumes nothing.
 use native.Mathlib.Omega.{arith}
 use Rattle.single.proofs.Taking.{header_there, refused, too_short, walkable, walked}
-use borrow.Author.Rules.{rules}
 use Rattle.single.proofs.walking.walk.Goals as goal
 
 pub returns-then-said-ne0 : goal.returns-then-said-ne0

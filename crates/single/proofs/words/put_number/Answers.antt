@@ -1,6 +1,6 @@
 -- A number put in its width, by cases of the width.
 -- Assumes nothing.
-use mathlib.Core.Path.{◌≡◌, ap, ◌∙◌, sym, subst}
+use mathlib.Core.Path.{ap, ◌∙◌, sym, subst}
 use Prim.Native.Nat.{ℕ, ◌^◌, ◌<◌}
 use native.Mathlib.Omega.{arith}
 use Rattle.wire.specs.Number.{be, splice}
