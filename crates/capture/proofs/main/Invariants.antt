@@ -5,12 +5,11 @@ use Prim.Native.Nat.{◌≤◌}
 use lib.ListN.{length}
 use Rattle.session.specs.Meaning.{held}
 use Rattle.capture.specs.Replays.{Strictly}
-use Rattle.capture.proofs.Strict.{opened_strictly}
 use borrow.Author.Rules.{rules}
 use Rattle.capture.proofs.main.Given as goal
 
 abbrev pub invariant-loop-turns : goal.invariant-loop-turns
-invariant-loop-turns g l = Strictly (held l.session l.room l.window) × (l.from ≤ l.to) × (l.to ≤ length l.buf) × (length l.buf ≡ 131072)
+invariant-loop-turns l = Strictly (held l.session l.room l.window) × (l.from ≤ l.to) × (l.to ≤ length l.buf) × (length l.buf ≡ 131072)
 
 abbrev pub decreases-loop-turns : goal.decreases-loop-turns
-decreases-loop-turns g l = l.turns
+decreases-loop-turns l = l.turns

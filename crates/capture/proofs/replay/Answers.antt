@@ -13,4 +13,4 @@ pub loop-size-preserved : goal.loop-size-preserved
 loop-size-preserved g c =
     let call = c.take-taken.ensures in
     let before = c.loop-size.invariant in
-    (taken_strictly _ before.0 call.0 call.1.1, search rules, search rules)
+    (taken_strictly _ before.0 call.taken call.rule, search rules, search rules)
