@@ -1,5 +1,4 @@
--- Laws of `exports`' definitions, and of walks that hand parameters on.
+-- Laws of `exports`' definitions.
 pub mod Told
 pub mod OrderPlaces
 pub mod Handed
-pub mod Engine

@@ -4,11 +4,10 @@ use mathlib.Core.Path.{refl, ap}
 use Prim.Native.Nat.{ℕ}
 use Rattle.session.specs.Meaning.{next_in}
 use Rattle.exports.specs.declared.applying.Start.{Start}
-use borrow.Author.Rules.{rules}
 use Rattle.exports.proofs.applying.begin.Goals as goal
 
 abbrev started : ℕ → ℕ → Start
 started next due = record { next = next; due = due }
 
 pub returns : goal.returns
-returns c = (ap (started (next_in c.args.room.now)) c.most_due.ensures, refl)
+returns c = record { start = ap (started (next_in c.args.room.now)) c.most_due.ensures; same = refl }

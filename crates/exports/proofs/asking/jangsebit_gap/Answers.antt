@@ -4,7 +4,6 @@ use mathlib.Core.Path.{ap}
 use Rattle.window.specs.declared.missing.Gap.{Gap}
 use Rattle.single.specs.Over.{over}
 use Rattle.exports.specs.Told.{gap_numbers}
-use borrow.Author.Rules.{rules}
 use Rattle.exports.proofs.asking.jangsebit_gap.Goals as goal
 
 pub returns : goal.returns

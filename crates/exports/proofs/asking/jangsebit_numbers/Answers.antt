@@ -1,7 +1,6 @@
 -- Each number by the question that answers it.
 -- Assumes nothing.
 use Rattle.exports.proofs.Told.{numbers_told}
-use borrow.Author.Rules.{rules}
 use Rattle.exports.proofs.asking.jangsebit_numbers.Goals as goal
 
 pub returns : goal.returns

@@ -2,7 +2,6 @@
 -- Assumes nothing.
 use mathlib.Core.Path.{ap, ◌∙◌, sym}
 use Rattle.book_room.specs.Room.{rule_number}
-use borrow.Author.Rules.{rules}
 use Rattle.exports.proofs.asking.jangsebit_rule.Goals as goal
 
 pub returns-in-Default : goal.returns-in-Default

@@ -3,7 +3,6 @@
 use mathlib.Core.Path.{refl}
 use Rattle.session.proofs.Answers.{bad_asked, known_asked, none_asked, some_book, order_few}
 use Rattle.exports.proofs.OrderPlaces.{known_at, refused_at}
-use borrow.Author.Rules.{rules}
 use Rattle.exports.proofs.asking.locate.Goals as goal
 
 pub returns-in_default : goal.returns-in_default

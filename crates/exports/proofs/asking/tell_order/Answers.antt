@@ -1,7 +1,6 @@
 -- An order by its numbers.
 -- Assumes nothing.
 use Rattle.exports.proofs.Told.{order_told}
-use borrow.Author.Rules.{rules}
 use Rattle.exports.proofs.asking.tell_order.Goals as goal
 
 pub returns : goal.returns

@@ -13,7 +13,6 @@ use Rattle.session.specs.declared.packets.Count.TheVariants as count
 use Rattle.exports.specs.Handed.{taken_told}
 use Rattle.exports.specs.Kept.{count_numbers}
 use Rattle.single.specs.Over.{over}
-use borrow.Author.Rules.{rules}
 use Rattle.exports.proofs.keeping.jangsebit_keep_packets.Goals as goal
 
 -- what is told is what is told of a burst that is taken
@@ -32,7 +31,12 @@ returns c =
     let s = c.args.packets.now in
     let n = length c.args.answers.now in
     let told = c.tell_all.ensures in
-    (kept.1.1.0, (told ∙ ap₂ (λ (k : Count) (b : ℕ). over (count_numbers k b) old) kept.0 kept.1.0 ∙ told_of s c.args.count n old, kept.1.1.1))
+    record {
+      answers = kept.answers;
+      told = told ∙ ap₂ (λ (k : Count) (b : ℕ). over (count_numbers k b) old) kept.count kept.bytes ∙ told_of s c.args.count n old;
+      held = kept.held;
+      rule = kept.rule;
+    }
 
 pub keep_burst-kept-requires : goal.keep_burst-kept-requires
 keep_burst-kept-requires c = c.requires

@@ -4,7 +4,6 @@ use mathlib.Core.Path.{ap, sym}
 use Rattle.session.specs.declared.packets.Count.{Count}
 use Rattle.exports.specs.Kept.{count_numbers}
 use Rattle.single.specs.Over.{over}
-use borrow.Author.Rules.{rules}
 use Rattle.exports.proofs.keeping.tell_all.Goals as goal
 
 pub returns-in-Packets : goal.returns-in-Packets

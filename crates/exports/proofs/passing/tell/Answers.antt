@@ -4,7 +4,6 @@ use mathlib.Core.Path.{ap, sym}
 use Rattle.session_keeping.specs.declared.passing.Passed.{Passed}
 use Rattle.exports.specs.Passed.{pass_numbers}
 use Rattle.single.specs.Over.{over}
-use borrow.Author.Rules.{rules}
 use Rattle.exports.proofs.passing.tell.Goals as goal
 
 pub returns-in-Applies : goal.returns-in-Applies

@@ -6,7 +6,6 @@ use Prim.Native.Nat.{ℕ, ◌/◌}
 use lib.Dec.{eqb, leb}
 use Rattle.exports.specs.Handed.{plan_of}
 use Rattle.exports.specs.declared.taking.Plan.{Plan}
-use borrow.Author.Rules.{rules}
 use Rattle.exports.proofs.taking.make_plan.Goals as goal
 
 abbrev planned : Bool → ℕ → Bool → Plan

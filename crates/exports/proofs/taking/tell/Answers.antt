@@ -4,7 +4,6 @@ use mathlib.Core.Path.{ap}
 use Prim.Native.Nat.{ℕ}
 use mathlib.Core.List.{[], ◌∷◌}
 use Rattle.single.specs.Over.{over}
-use borrow.Author.Rules.{rules}
 use Rattle.exports.proofs.taking.tell.Goals as goal
 
 pub returns : goal.returns

@@ -1,4 +1,0 @@
--- What a walk over lent memory cites.
-pub mod Passed
-pub mod Slices
-pub mod Orders
