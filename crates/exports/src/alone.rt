@@ -13,8 +13,7 @@ ghost use Rattle.single.specs.Walks.{places_after, walk_numbers, walk_refusal};
 ghost use Rattle.single.specs.Words.{message_refusal, message_told};
 
 // The value of an id; 12 where the id breaks its rule.
-#[unsafe(no_mangle)]
-pub extern "C" fn jangsebit_value(id: &[u8; 14], told: &mut [u64; 1]) -> u64
+pub fn jangsebit_value(id: &[u8; 14], told: &mut [u64; 1]) -> u64
     ensures refusal { result ≡ id_refusal (id_answer id.now) }
     ensures told { told.new ≡ id_told (id_answer id.now) told.old }
 {
@@ -22,8 +21,7 @@ pub extern "C" fn jangsebit_value(id: &[u8; 14], told: &mut [u64; 1]) -> u64
 }
 
 // Of a packet's header its size, number, flag, count of messages and milliseconds; or the first of 1 to 6.
-#[unsafe(no_mangle)]
-pub extern "C" fn jangsebit_header(packet: &[u8], told: &mut [u64; 5]) -> u64
+pub fn jangsebit_header(packet: &[u8], told: &mut [u64; 5]) -> u64
     ensures refusal { result ≡ header_refusal (header_of packet.now) }
     ensures told { told.new ≡ header_told (header_of packet.now) told.old }
 {
@@ -31,8 +29,7 @@ pub extern "C" fn jangsebit_header(packet: &[u8], told: &mut [u64; 5]) -> u64
 }
 
 // A header into a buffer's first 12 bytes; 14 for a header that no packet has, then 11 where it does not fit.
-#[unsafe(no_mangle)]
-pub extern "C" fn jangsebit_write_header(
+pub fn jangsebit_write_header(
     size: u16,
     seq: u32,
     flag: u8,
@@ -47,8 +44,7 @@ pub extern "C" fn jangsebit_write_header(
 }
 
 // The first of 1 to 8 that applies to a packet. Told is the offset that it rests on.
-#[unsafe(no_mangle)]
-pub extern "C" fn jangsebit_judge(packet: &[u8], told: &mut [u64; 1]) -> u64
+pub fn jangsebit_judge(packet: &[u8], told: &mut [u64; 1]) -> u64
     ensures refusal { result ≡ (judge_of packet.now).test }
     ensures told { told.new ≡ over ((judge_of packet.now).offset ∷ []) told.old }
 {
@@ -57,8 +53,7 @@ pub extern "C" fn jangsebit_judge(packet: &[u8], told: &mut [u64; 1]) -> u64
 
 // Where each message of a packet starts and how many bytes it has, two numbers a message; or the first of 1 to 7, or 11
 // where the list is too short for all. Told are the offset that one of 1 to 7 rests on, and how many messages there are.
-#[unsafe(no_mangle)]
-pub extern "C" fn jangsebit_walk(packet: &[u8], places: &mut [u64], told: &mut [u64; 2]) -> u64
+pub fn jangsebit_walk(packet: &[u8], places: &mut [u64], told: &mut [u64; 2]) -> u64
     ensures refusal { result ≡ walk_refusal packet.now (length places.old) }
     ensures places { places.new ≡ places_after packet.now places.old }
     ensures told { told.new ≡ over (walk_numbers packet.now) told.old }
@@ -68,8 +63,7 @@ pub extern "C" fn jangsebit_walk(packet: &[u8], places: &mut [u64], told: &mut [
 
 // The message that the bytes are: its type, then its fields in the order of its layout, a text of 14 bytes as its first
 // eight, the next four and the last two; of 28 and unlisted types the type alone. Or 7, then 14.
-#[unsafe(no_mangle)]
-pub extern "C" fn jangsebit_message(bytes: &[u8], told: &mut [u64; 14]) -> u64
+pub fn jangsebit_message(bytes: &[u8], told: &mut [u64; 14]) -> u64
     ensures refusal { result ≡ message_refusal (read_of bytes.now) }
     ensures told { told.new ≡ message_told (read_of bytes.now) told.old }
 {
@@ -78,8 +72,7 @@ pub extern "C" fn jangsebit_message(bytes: &[u8], told: &mut [u64; 14]) -> u64
 
 // The message of such numbers at a place in a buffer; told is how many bytes it has. 14 where the type is not written, a
 // field breaks its rule or a number does not fit in its field, then 11 where the message does not fit in the buffer.
-#[unsafe(no_mangle)]
-pub extern "C" fn jangsebit_write_message(
+pub fn jangsebit_write_message(
     numbers: &[u64; 14],
     buf: &mut [u8],
     at: usize,

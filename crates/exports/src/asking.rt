@@ -22,8 +22,7 @@ use window::places::Window;
 
 // Told are next, end, how many orders are live and insides held, the code of the last Trading Session, and of the
 // faults the first one's number, their count and the first one's reason.
-#[unsafe(no_mangle)]
-pub extern "C" fn jangsebit_numbers(room: &Room, told: &mut [u64; 8])
+pub fn jangsebit_numbers(room: &Room, told: &mut [u64; 8])
     ensures { told.new ≡ over (numbers_in room.now) told.old }
 {
     let next = session::asking::next(room);
@@ -43,8 +42,7 @@ pub extern "C" fn jangsebit_numbers(room: &Room, told: &mut [u64; 8])
 }
 
 // The lowest number that no accepted packet has carried.
-#[unsafe(no_mangle)]
-pub extern "C" fn jangsebit_lowest(room: &Room, window: &Window) -> u64
+pub fn jangsebit_lowest(room: &Room, window: &Window) -> u64
     requires { (session : Table) × Ruled (held session room.now window.now) }
     ensures { result ≡ lowest_number (line_in room.now window.now) }
 {
@@ -52,8 +50,7 @@ pub extern "C" fn jangsebit_lowest(room: &Room, window: &Window) -> u64
 }
 
 // The rule that the opening chose for types that are not in the table: 0 by default, 1 for the strict one.
-#[unsafe(no_mangle)]
-pub extern "C" fn jangsebit_rule(room: &Room) -> u64
+pub fn jangsebit_rule(room: &Room) -> u64
     ensures { result ≡ rule_number (rule_in room.now) }
 {
     let rule = session::asking::rule(room);
@@ -64,8 +61,7 @@ pub extern "C" fn jangsebit_rule(room: &Room) -> u64
 }
 
 // How many messages of such a type were counted apart.
-#[unsafe(no_mangle)]
-pub extern "C" fn jangsebit_unlisted(room: &Room) -> u64
+pub fn jangsebit_unlisted(room: &Room) -> u64
     ensures { result ≡ apart_in room.now }
 {
     session::asking::unlisted(room)
@@ -142,8 +138,7 @@ fn tell_inside(told: &mut [u64; 6], inside: Inside)
 
 // The inside of a symbol: ask, bid, time, the volumes of both, unsolicited. The answer is the refusal: 12 where the
 // symbol breaks its rule, 13 where no inside of it is held, else 0.
-#[unsafe(no_mangle)]
-pub extern "C" fn jangsebit_inside(room: &Room, symbol: &[u8; 14], told: &mut [u64; 6]) -> u64
+pub fn jangsebit_inside(room: &Room, symbol: &[u8; 14], told: &mut [u64; 6]) -> u64
     requires { (session : Table) × (window : List ℕ) × Ruled (held session room.now window) }
     ensures refusal { result ≡ refusal_in (inside_for (insides_in room.now) symbol.now).reply }
     ensures told { told.new ≡ inside_told (inside_for (insides_in room.now) symbol.now) told.old }
@@ -175,13 +170,7 @@ fn tell_count(told: &mut [u64; 1], asked: Asked) -> u64
 
 // The requests for all that is missing, into a buffer; told is how many. The answer is the refusal: 11 where the
 // buffer is too short, and then it stays as it was, else 0.
-#[unsafe(no_mangle)]
-pub extern "C" fn jangsebit_requests(
-    room: &Room,
-    window: &Window,
-    buf: &mut [u8],
-    told: &mut [u64; 1],
-) -> u64
+pub fn jangsebit_requests(room: &Room, window: &Window, buf: &mut [u8], told: &mut [u64; 1]) -> u64
     requires { (session : Table) × Ruled (held session room.now window.now) }
     ensures refusal { result ≡ asked_refusal (asked_of (gaps_of (line_in room.now window.now)) (length buf.old)) }
     ensures buffer { buf.new ≡ buffer_after (gaps_of (line_in room.now window.now)) buf.old }
@@ -192,8 +181,7 @@ pub extern "C" fn jangsebit_requests(
 }
 
 // The first run of missing numbers from a number on: its start, and its count, 0 where there is none.
-#[unsafe(no_mangle)]
-pub extern "C" fn jangsebit_gap(room: &Room, window: &Window, from: u64, told: &mut [u64; 2])
+pub fn jangsebit_gap(room: &Room, window: &Window, from: u64, told: &mut [u64; 2])
     requires { (session : Table) × Ruled (held session room.now window.now) }
     ensures { told.new ≡ over (gap_numbers (gap_from (line_in room.now window.now) from)) told.old }
 {

@@ -29,8 +29,7 @@ fn tell_kept(told: &mut [u64; 1], kept: Kept) -> u64
 
 // One packet judged, its messages kept until they are applied. Told is how many of its numbers now wait that did not
 // before. The answer is the refusal, 1 to 10, and then nothing has changed, else 0.
-#[unsafe(no_mangle)]
-pub extern "C" fn jangsebit_keep(
+pub fn jangsebit_keep(
     room: &mut Room,
     window: &mut Window,
     packet: &[u8],
@@ -67,8 +66,7 @@ fn tell_all(told: &mut [u64; 3], count: Count, bytes: usize)
 // are, kept and none applied. Four numbers answer each: how many of its numbers now wait that did not before, the
 // refusal or 0, then next and end. Told are the refusal, how many packets there were and how many bytes they are; 11
 // where the answers to so many do not fit, and then nothing is kept.
-#[unsafe(no_mangle)]
-pub extern "C" fn jangsebit_keep_packets(
+pub fn jangsebit_keep_packets(
     room: &mut Room,
     window: &mut Window,
     packets: &[u8],

@@ -1,5 +1,6 @@
-// Exports for C and Rust. Most are over one session that the host holds: the orders, and beside them the room and
-// the window, which it lends with each call. Told numbers go into lists that are lent too.
+// What hosts in C and Rust call, over one session that they hold: the orders, and beside them the room and the window,
+// which are lent with each call. Told numbers go into lists that are lent too. `exports_c` has each under the name and the
+// calling convention of C.
 #![tactic(auto)]
 
 mod alone;
@@ -37,8 +38,7 @@ pub use sizes::jangsebit_sizes;
 use window::places::Window;
 
 // The version of these exports.
-#[unsafe(no_mangle)]
-pub extern "C" fn jangsebit_version() -> u32
+pub fn jangsebit_version() -> u32
     ensures { result ≡ 3 }
 {
     3
@@ -46,13 +46,7 @@ pub extern "C" fn jangsebit_version() -> u32
 
 // A fresh session for an opening number. Whatever stood in the three is gone. A type that is not in the table is
 // counted apart.
-#[unsafe(no_mangle)]
-pub extern "C" fn jangsebit_open(
-    session: &mut Session,
-    room: &mut Room,
-    window: &mut Window,
-    number: u32,
-)
+pub fn jangsebit_open(session: &mut Session, room: &mut Room, window: &mut Window, number: u32)
     requires { Sized room.old window.old }
     ensures opened { held session.new room.new window.new ≡ rep (opened (fresh Default) number) }
     ensures rule { Ruled (held session.new room.new window.new) }
@@ -61,8 +55,7 @@ pub extern "C" fn jangsebit_open(
 }
 
 // The same under the strict rule: a type that is not in the table is fault 1.
-#[unsafe(no_mangle)]
-pub extern "C" fn jangsebit_open_strict(
+pub fn jangsebit_open_strict(
     session: &mut Session,
     room: &mut Room,
     window: &mut Window,
@@ -79,8 +72,7 @@ pub extern "C" fn jangsebit_open_strict(
 // are. Where `single` is not 0 the bytes are one packet, and the count is not looked at: it is 1. Four numbers answer
 // each: how many messages were applied, the refusal or 0, then next and end. Told are the refusal, how many packets were
 // taken and how many bytes they are; 11 where the answers to so many do not fit, and then nothing is taken.
-#[unsafe(no_mangle)]
-pub extern "C" fn jangsebit_packets(
+pub fn jangsebit_packets(
     session: &mut Session,
     room: &mut Room,
     window: &mut Window,
@@ -104,8 +96,7 @@ pub extern "C" fn jangsebit_packets(
 }
 
 // Applies up to so many of the messages that wait from next on, in their order. The answer is how many.
-#[unsafe(no_mangle)]
-pub extern "C" fn jangsebit_apply(
+pub fn jangsebit_apply(
     session: &mut Session,
     room: &mut Room,
     window: &mut Window,
@@ -135,13 +126,7 @@ pub extern "C" fn jangsebit_apply(
 // The live order of an id: the id's value, price, shares, firm, the symbol's first eight bytes and its last eight as
 // numbers, side, unsolicited. The answer is the refusal: 12 where the id breaks its rule, 13 where no such order is
 // live, else 0.
-#[unsafe(no_mangle)]
-pub extern "C" fn jangsebit_order(
-    session: &Session,
-    room: &Room,
-    id: &[u8; 14],
-    told: &mut [u64; 8],
-) -> u64
+pub fn jangsebit_order(session: &Session, room: &Room, id: &[u8; 14], told: &mut [u64; 8]) -> u64
     requires { (window : List ℕ) × Ruled (held session.now room.now window) }
     ensures refusal { result ≡ refusal_in (order_asked (tables_in session.now room.now) id.now).reply }
     ensures told { told.new ≡ order_told (order_asked (tables_in session.now room.now) id.now) told.old }
@@ -154,13 +139,7 @@ pub extern "C" fn jangsebit_order(
 // The best prices of many symbols and sides, 15 bytes a question. Four numbers answer each: the refusal or 0, the
 // price, the sum of shares there and the number of orders. The answer is 11 where the replies do not fit, and then
 // nothing is written, else 0.
-#[unsafe(no_mangle)]
-pub extern "C" fn jangsebit_quotes(
-    session: &Session,
-    room: &Room,
-    asked: &[u8],
-    replies: &mut [u64],
-) -> u64
+pub fn jangsebit_quotes(session: &Session, room: &Room, asked: &[u8], replies: &mut [u64]) -> u64
     requires { (window : List ℕ) × Ruled (held session.now room.now window) }
     ensures refusal { result ≡ quoted_of (length asked.now) (length replies.old) }
     ensures replies { replies.new ≡ quotes_after (tables_in session.now room.now) asked.now replies.old }

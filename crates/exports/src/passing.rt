@@ -33,13 +33,7 @@ fn tell(told: &mut [u64; 2], passed: Passed)
 // One packet, if it does not carry next and nothing waits there: then it applies no message, and no order is needed.
 // Told are 0 where taking it may apply one, and nothing was done; 1 where it was kept, or only its end counts; 2 where it
 // was refused, and by which test.
-#[unsafe(no_mangle)]
-pub extern "C" fn jangsebit_pass(
-    room: &mut Room,
-    window: &mut Window,
-    packet: &[u8],
-    told: &mut [u64; 2],
-)
+pub fn jangsebit_pass(room: &mut Room, window: &mut Window, packet: &[u8], told: &mut [u64; 2])
     requires { (session : Session) × Ruled (held session room.old window.old) }
     ensures told { told.new ≡ over (pass_numbers (passed_of (line_in room.old window.old) packet.now)) told.old }
     ensures held { (session : Session) → Ruled (held session room.old window.old) → held session room.new window.new ≡ rep (pass_on (view (held session room.old window.old)) packet.now) }
