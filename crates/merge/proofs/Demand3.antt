@@ -5,7 +5,7 @@ use native.Mathlib.Omega.{arith}
 use mathlib.Core.Path.{◌≡◌, refl, sym, ap, ◌∙◌, subst}
 use mathlib.Core.List.{List, [], ◌∷◌, ◌++◌, append-nil, append_assoc}
 use mathlib.Core.Option.{Option, none, some}
-use Rattle.merge.specs.State.{Feed, Packet, State, Channel, Call, keeping, applying, end_of, opened, keep, kept_if, keep_one, apply_up_to, apply_some, call_one, call_all, calls_if, calls_of, take_if, take_one, take_all, keeps_of}
+use Rattle.merge.specs.State.{Feed, Packet, State, Channel, Call, keeping, applying, end_of, opened, keep, kept_if, keep_one, apply_up_to, apply_some, call_one, call_all, calls_if, calls_of, take_if, take_one, take_all}
 use Rattle.merge.specs.History.{Lowest, joined, accepted, brought_by}
 use Rattle.merge.specs.Promise.{Inv, Demand3, Fits, Judged, Rule}
 use Rattle.merge.proofs.Rule.{opened_inv, keep_inv, apply_inv}

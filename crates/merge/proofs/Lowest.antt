@@ -11,7 +11,7 @@ use mathlib.Core.Option.{Option, none, some}
 use Rattle.merge.specs.State.{Feed, Packet, State, end_of, keep, step, apply_up_to, is_there, lowest_from, lowest_in}
 use Rattle.merge.specs.History.{Carried, Lowest}
 use Rattle.merge.specs.Promise.{Inv, Fits}
-use Rattle.merge.proofs.Copies.{chosen, told_no, told_none, told_yes, first_told, carried_last}
+use Rattle.merge.proofs.Copies.{told_no, told_none, told_yes, first_told, carried_last}
 use Rattle.merge.proofs.Rule.{keep_inv, apply_inv}
 use Rattle.merge.proofs.Window.{waits-carried, waits_where}
 
