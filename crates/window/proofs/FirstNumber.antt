@@ -1,12 +1,12 @@
 -- Looking along numbers, from where the look is; and the runs by where each begins and ends.
 -- Assumes nothing.
-use mathlib.Core.Path.{◌≡◌, refl, ap, ◌∙◌, sym}
+use mathlib.Core.Path.{◌≡◌, refl, ◌∙◌}
 use mathlib.Core.Bool.{Bool, true, false, not, cond}
-use mathlib.Core.List.{List, [], ◌∷◌, ◌++◌}
+use mathlib.Core.List.{List}
 use Prim.Native.Nat.{ℕ, zero, suc, ◌+◌, ◌-◌, ◌%◌, ◌≤◌, ◌<◌}
 use native.Mathlib.Omega.{arith}
 use lib.Dec.{eqb}
-use Rattle.window.specs.Runs.{closed, first_from, missing_is, run_from, runs_from, IsFirst, IsRun}
+use Rattle.window.specs.Runs.{first_from, missing_is, run_from, IsFirst, IsRun}
 use Rattle.window.specs.declared.missing.Gap.{Gap}
 use Rattle.window.specs.Window.{size_at}
 

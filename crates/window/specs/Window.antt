@@ -1,7 +1,7 @@
 -- Document 01, "waiting window 256 numbers": 256 places of 128 bytes, one behind the other. Number k waits at place k % 256,
 -- its message first, zeros behind it; a place whose size bytes are 0 is free.
 -- Assumes nothing.
-use Rattle.std.specs.Prelude.{cond, List, [], ◌∷◌, ◌++◌, ℕ, zero, suc, ◌+◌, ◌-◌, ◌*◌, eqb, length, replicate}
+use Rattle.std.specs.Prelude.{cond, List, [], ◌∷◌, ◌++◌, ℕ, zero, suc, ◌-◌, ◌*◌, eqb, length, replicate}
 use Rattle.std.proofs.Math.Option.{Option, none, some}
 use Rattle.wire.specs.Number.{num, part}
 

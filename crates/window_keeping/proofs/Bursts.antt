@@ -1,20 +1,19 @@
 -- Packets kept one after the other: what the window holds between two of them, and the answers that are to come.
 -- Assumes nothing.
 use mathlib.Core.Path.{◌≡◌, refl, ap, ap₂, ◌∙◌, sym, subst}
-use mathlib.Core.Bool.{Bool, true, false, cond}
+use mathlib.Core.Bool.{true, false}
 use mathlib.Core.List.{List, [], ◌∷◌, ◌++◌}
 use mathlib.Core.Logic.{by_cases}
-use mathlib.Core.Option.{Option, none, some, none-ne-some}
+use mathlib.Core.Option.{Option, none, some}
 use Prim.Native.Nat.{ℕ, ◌+◌, ◌-◌, ◌*◌, ◌≤◌, ◌<◌}
 use native.Mathlib.Decide.{dec_lt}
 use native.Mathlib.Omega.{arith}
 use lib.ListN.{length, take, drop}
-use Rattle.wire.specs.Number.{Bytes, part, splice}
+use Rattle.wire.specs.Number.{Bytes, splice}
 use Rattle.wire.proofs.Place.{length-splice, part_bytes, splice_next, splice-none}
-use Rattle.merge.specs.State.{Feed, Packet, State, copy_of, end_of, first_there, keep, kept_if}
+use Rattle.merge.specs.State.{Feed, Packet, State, copy_of, first_there, keep, kept_if}
 use Rattle.merge.proofs.Clauses.{kept_new, kept_none, kept_old}
 use Rattle.merge.proofs.Copies.{copy_none, copy_told, told_yes}
-use Rattle.message.specs.Whole.{Whole}
 use Rattle.window_taking.specs.Keeping.{Known, Neat, admitted_of, held_by, kept_all, kept_by, state_of, waiting_of, window_for}
 use Rattle.window_taking.specs.Taking.{judge}
 use Rattle.window_taking.specs.Turns.{Lies, at_start, behind, done_in, end_from, frame_at, packet_at, packets_from}

@@ -1,6 +1,6 @@
 -- The packets of a burst kept one after the other, nothing applied: the answer to each.
 -- Assumes nothing.
-use Rattle.std.specs.Prelude.{false, List, [], ◌∷◌, ◌++◌, ℕ, ◌+◌, ◌-◌, ◌*◌, ◌≤◌}
+use Rattle.std.specs.Prelude.{false, List, [], ◌∷◌, ◌++◌, ℕ, ◌+◌, ◌-◌, ◌≤◌}
 use Rattle.merge.specs.State.{State}
 use Rattle.packet.specs.Header.{decided}
 use Rattle.window_taking.specs.Keeping.{fresh_by, kept_by}

@@ -2,9 +2,9 @@
 -- Assumes nothing.
 use mathlib.Core.Path.{◌≡◌, refl, ap, ◌∙◌, sym, subst, fun_ext}
 use mathlib.Core.Bool.{Bool, true, false, cond, not, ◌&&◌}
-use mathlib.Core.List.{List, [], ◌∷◌, ◌++◌, map}
+use mathlib.Core.List.{List, [], ◌∷◌, map}
 use mathlib.Core.Option.{Option, none, some}
-use Prim.Native.Nat.{ℕ, ◌+◌, ◌-◌, ◌%◌, ◌≤◌, ◌<◌, max}
+use Prim.Native.Nat.{ℕ, ◌+◌, ◌%◌, ◌≤◌, ◌<◌, max}
 use mathlib.Core.Logic.{by_cases}
 use native.Mathlib.Decide.{dec_lt}
 use native.Mathlib.Omega.{arith}
@@ -24,7 +24,7 @@ use Rattle.packet.specs.declared.header.Judged.{Judged}
 use Rattle.packet.proofs.Judgements.{and_left, and_right, decides, header_numbered, joined, passes}
 use Rattle.merge.proofs.Places.{waiting_below}
 use Rattle.window.specs.Window.{waits_at}
-use Rattle.window_taking.specs.Taking.{bytes_at, differ_at, differ_from, frames_in, is_some, judge, nine, offset_of, or_zero, packet_in, take_tests, ten, wait_tests}
+use Rattle.window_taking.specs.Taking.{bytes_at, differ_at, differ_from, frames_in, is_some, judge, nine, offset_of, packet_in, take_tests, ten, wait_tests}
 use Rattle.window_taking.specs.Keeping.{waiting_of, window_for, state_of, starts_at, count_of, straight_in, through_in, Known, Neat, Passed, fresh_by, held_by, kept_by, admitted_of}
 use Rattle.window_taking.specs.declared.admitting.Admitted.{Admitted}
 use Rattle.window_taking.proofs.Accepted.{first_not, length_frames, packet_numbered, second}

@@ -1,11 +1,10 @@
 -- The messages of a packet that passed test 7, one after the other.
 -- Assumes nothing.
-use mathlib.Core.Path.{◌≡◌, refl, ap, ◌∙◌, sym, subst}
+use mathlib.Core.Path.{◌≡◌, refl, ap, sym}
 use mathlib.Core.Bool.{Bool, true, false, cond}
-use mathlib.Core.List.{List, [], ◌∷◌}
+use mathlib.Core.List.{List, ◌∷◌}
 use Prim.Native.Nat.{ℕ, zero, suc, ◌+◌, ◌-◌, ◌≤◌, ◌<◌}
 use native.Mathlib.Omega.{arith}
-use lib.ListN.{length}
 use Rattle.packet.specs.Judging.{is_broken}
 use Rattle.packet.specs.Walk.{broken_at, frames_from, size_at, step_at, walk_from}
 use Rattle.packet.specs.declared.walk.Walked.{Walked}

@@ -1,11 +1,11 @@
 -- What waits and the window that holds it: each gives the other, and a message kept changes one place.
 -- Assumes nothing.
-use mathlib.Core.Path.{◌≡◌, refl, ap, ◌∙◌, sym, subst, fun_ext}
-use mathlib.Core.Bool.{Bool, cond, ◌&&◌}
-use mathlib.Core.List.{List, []}
+use mathlib.Core.Path.{◌≡◌, refl, ap, ◌∙◌, sym, fun_ext}
+use mathlib.Core.Bool.{cond, ◌&&◌}
+use mathlib.Core.List.{List}
 use mathlib.Core.Logic.{by_cases}
 use mathlib.Core.Option.{Option, none, some, none-ne-some}
-use Prim.Native.Nat.{ℕ, ◌+◌, ◌-◌, ◌%◌, ◌≤◌, ◌<◌}
+use Prim.Native.Nat.{ℕ, ◌+◌, ◌%◌, ◌≤◌, ◌<◌}
 use native.Mathlib.Nat.{mod-lt}
 use native.Mathlib.Decide.{dec_lt, ℕ_discrete}
 use native.Mathlib.Omega.{arith}
@@ -13,8 +13,8 @@ use borrow.Author.Tests.{eq-eqb, ne_eqb}
 use lib.Dec.{leb, ltb}
 use lib.ListN.{length}
 use Rattle.wire.specs.Number.{part, splice}
-use Rattle.merge.specs.State.{State, single, keep, kept_at, copy_of, fresh_in}
-use Rattle.merge.specs.Places.{InPlaces, Put, number_at, waiting_in}
+use Rattle.merge.specs.State.{State, single, keep, kept_at, fresh_in}
+use Rattle.merge.specs.Places.{InPlaces, number_at, waiting_in}
 use Rattle.merge.specs.Promise.{Agrees}
 use Rattle.merge.proofs.Clauses.{fresh_again, fresh_new, fresh_old, kept_again, kept_none, kept_old}
 use Rattle.merge.proofs.Copies.{copy_other}

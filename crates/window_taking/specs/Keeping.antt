@@ -1,6 +1,6 @@
 -- Document 01, "Taking a packet", on the window alone: what waits in it, and what it holds once a packet is kept.
 -- Assumes nothing.
-use Rattle.std.specs.Prelude.{◌≡◌, Bool, true, false, cond, ◌&&◌, List, [], ◌∷◌, ℕ, ◌+◌, ◌≤◌, ◌<◌, eqb, length}
+use Rattle.std.specs.Prelude.{◌≡◌, Bool, false, cond, ◌&&◌, List, [], ◌∷◌, ℕ, ◌+◌, ◌≤◌, ◌<◌, eqb, length}
 use Rattle.std.proofs.Math.Option.{Option, none, some}
 use Rattle.wire.specs.Number.{part}
 use Rattle.merge.specs.State.{Packet, State, fresh_if, kept_if}

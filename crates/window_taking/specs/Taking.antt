@@ -1,7 +1,7 @@
 -- Document 01, "Taking a packet": which packets a session takes, and the channel that `merge` speaks of. A message is its
 -- bytes; the tables are any.
 -- Assumes nothing.
-use Rattle.std.specs.Prelude.{Bool, true, false, cond, not, ◌&&◌, List, [], ◌∷◌, ◌++◌, map, ℕ, zero, suc, ◌+◌, eqb, leb, length}
+use Rattle.std.specs.Prelude.{Bool, true, false, cond, List, [], ◌∷◌, ◌++◌, map, ℕ, ◌+◌, eqb, leb, length}
 use Rattle.std.proofs.Math.Option.{Option, none, some}
 use Rattle.wire.specs.Number.{part}
 use Rattle.merge.specs.State.{Feed, Packet, State, Channel, packet, heartbeat, lowest_in}

@@ -3,7 +3,6 @@
 use mathlib.Core.Path.{sym, ◌∙◌}
 use Rattle.session_message.proofs.Choices.{text-packet, text_window}
 use Rattle.wire.proofs.Copying.{copied_all, copied_more, copied_none}
-use borrow.Author.Rules.{rules}
 use Rattle.session_message.proofs.fetch.Goals as goal
 
 pub returns-then-rest-ne0 : goal.returns-then-rest-ne0

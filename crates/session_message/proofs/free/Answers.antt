@@ -2,7 +2,6 @@
 -- Assumes nothing.
 use mathlib.Core.Path.{sym, ◌∙◌}
 use Rattle.session_message.proofs.Choices.{freed-packet, freed_window}
-use borrow.Author.Rules.{rules}
 use Rattle.session_message.proofs.free.Goals as goal
 
 pub returns-then-rest-eq0 : goal.returns-then-rest-eq0

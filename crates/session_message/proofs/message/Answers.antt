@@ -4,7 +4,6 @@ use mathlib.Core.Path.{sym}
 use native.Mathlib.Omega.{arith}
 use lib.Seq.{length-take-le}
 use Rattle.session_message.proofs.Choices.{lent-packet, message_window}
-use borrow.Author.Rules.{rules}
 use Rattle.session_message.proofs.message.Goals as goal
 
 pub slice_bounds-result-end : goal.slice_bounds-result-end

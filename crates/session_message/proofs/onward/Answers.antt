@@ -3,7 +3,6 @@
 use mathlib.Core.Path.{sym}
 use native.Mathlib.Omega.{arith}
 use Rattle.session_message.proofs.Choices.{onward_packet, onward_window}
-use borrow.Author.Rules.{rules}
 use Rattle.session_message.proofs.onward.Goals as goal
 
 pub returns-then-rest-eq0 : goal.returns-then-rest-eq0

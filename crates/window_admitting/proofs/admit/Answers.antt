@@ -2,7 +2,6 @@
 -- Assumes nothing.
 use native.Mathlib.Omega.{arith}
 use Rattle.window_taking.proofs.Admits.{by_packet, long, beats, by_nine, old_on, passes_on, straight_on, by_ten, keeps}
-use borrow.Author.Rules.{rules}
 use Rattle.window_admitting.proofs.admit.Goals as goal
 
 pub returns-then-judged-ne0 : goal.returns-then-judged-ne0

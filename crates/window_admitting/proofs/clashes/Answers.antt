@@ -1,7 +1,6 @@
 -- Test 10, where a packet may differ from what waits at all.
 -- Assumes nothing.
 use Rattle.window_taking.proofs.Admits.{none_clashes}
-use borrow.Author.Rules.{rules}
 use Rattle.window_admitting.proofs.clashes.Goals as goal
 
 pub returns-then-end-first : goal.returns-then-end-first

@@ -2,7 +2,6 @@
 -- Assumes nothing.
 use native.Mathlib.Omega.{arith}
 use Rattle.window_taking.proofs.Frames.{place_after_lem}
-use borrow.Author.Rules.{rules}
 use Rattle.window_burst.proofs.after.Goals as goal
 
 pub overflow_add-result : goal.overflow_add-result

@@ -2,7 +2,6 @@
 -- Assumes nothing.
 use native.Mathlib.Omega.{arith}
 use Rattle.window_taking.proofs.Frames.{began, frame_stop, head_stop, kept}
-use borrow.Author.Rules.{rules}
 use Rattle.window_burst.proofs.begin.Goals as goal
 
 pub returns : goal.returns

@@ -1,10 +1,7 @@
 -- One answer; before the first packet there is none.
 -- Assumes nothing.
-use mathlib.Core.Path.{◌≡◌}
-use mathlib.Core.Bool.{true}
 use native.Mathlib.Omega.{arith}
 use Rattle.window_taking.proofs.Frames.{closed, is_true, not_begun, room_for}
-use borrow.Author.Rules.{rules}
 use Rattle.window_burst.proofs.close.Goals as goal
 
 pub returns-then-not-turn : goal.returns-then-not-turn

@@ -1,7 +1,6 @@
 -- None follows, or one does: by how many are asked for, and by the length before it.
 -- Assumes nothing.
 use Rattle.window_taking.proofs.Following.{by_length, no_length, none_asked, one_packet}
-use borrow.Author.Rules.{rules}
 use Rattle.window_burst.proofs.done.Goals as goal
 
 pub returns-then-turn-eq0 : goal.returns-then-turn-eq0

@@ -5,7 +5,6 @@ use Prim.Native.Nat.{ℕ, ◌-◌}
 use native.Mathlib.Omega.{arith}
 use Rattle.window_taking.specs.Keeping.{state_of}
 use Rattle.window_taking.specs.Turns.{turn_of}
-use borrow.Author.Rules.{rules}
 use Rattle.window_burst.proofs.follow.Goals as goal
 
 pub returns : goal.returns

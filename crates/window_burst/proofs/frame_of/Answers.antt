@@ -2,7 +2,6 @@
 -- Assumes nothing.
 use mathlib.Core.Path.{◌∙◌}
 use native.Mathlib.Omega.{arith}
-use borrow.Author.Rules.{rules}
 use Rattle.window_taking.proofs.Frames.{one_within, two_within, one_frame, two_frame}
 use Rattle.window_burst.proofs.frame_of.Goals as goal
 

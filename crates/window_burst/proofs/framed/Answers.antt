@@ -1,6 +1,5 @@
 -- A packet behind its length.
 -- Assumes nothing.
-use borrow.Author.Rules.{rules}
 use Rattle.window_taking.proofs.Frames.{framed_is}
 use Rattle.window_burst.proofs.framed.Goals as goal
 

@@ -1,7 +1,7 @@
 -- Four stores are one splice.
 -- Assumes nothing.
 use native.Mathlib.Omega.{arith}
-use lib.ListN.{length, length-set}
+use lib.ListN.{length-set}
 use Rattle.wire.proofs.Splice.{stored_splice}
 use borrow.Author.Rules.{rules}
 use Rattle.window_burst.proofs.put_answer.Goals as goal

@@ -1,14 +1,10 @@
 -- The next packet judged, kept and answered.
 -- Assumes nothing.
-use mathlib.Core.Path.{◌≡◌, ◌∙◌, ap}
-use mathlib.Core.List.{List}
-use Prim.Native.Nat.{ℕ, ◌≤◌}
-use lib.ListN.{length}
+use mathlib.Core.Path.{◌∙◌, ap}
 use native.Mathlib.Omega.{arith}
 use Rattle.wire.specs.Number.{splice}
 use Rattle.window_taking.proofs.Frames.{frame_stop}
 use Rattle.window_keeping.proofs.Bursts.{row_told, turn_told, window_told}
-use borrow.Author.Rules.{rules}
 use Rattle.window_keeping.proofs.keep_next.Goals as goal
 
 pub returns : goal.returns

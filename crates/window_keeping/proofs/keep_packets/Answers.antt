@@ -1,15 +1,11 @@
 -- One packet at each turn, until none follows.
 -- Assumes nothing.
-use mathlib.Core.Path.{◌≡◌, ◌∙◌, ap, sym}
-use mathlib.Core.Bool.{true, false}
+use mathlib.Core.Path.{◌∙◌, ap, sym}
 use native.Mathlib.Omega.{arith}
 use Rattle.wire.specs.Number.{Bytes}
-use Rattle.window_taking.specs.Turns.{done_in}
 use Rattle.window_taking.specs.declared.burst.Turn.{Turn}
 use Rattle.window_taking.proofs.Passing.{bytes_of}
-use Rattle.window_keeping.proofs.Bursts.{Going, at_end, end_end, going_next, going_start, hands, rows_end, taken_end, window_end}
-use borrow.Author.Rules.{rules}
-use borrow.Author.Tests.{not-false, not-true}
+use Rattle.window_keeping.proofs.Bursts.{at_end, end_end, going_next, going_start, hands, rows_end, taken_end, window_end}
 use Rattle.window_keeping.proofs.keep_packets.Goals as goal
 
 pub loop-window-init : goal.loop-window-init

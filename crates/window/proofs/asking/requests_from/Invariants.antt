@@ -1,9 +1,7 @@
 -- `window::requests_from` meets its contract: what is left to write, from where the writing is, gives the whole buffer.
 -- Assumes nothing.
-use borrow.Author.Rules.{rules}
 use Prim.Native.Nat.{◌-◌}
-use native.Mathlib.Omega.{arith}
-use Rattle.window.proofs.Requests.{Going, going_none, going_room, going_some, going_start}
+use Rattle.window.proofs.Requests.{Going}
 use Rattle.window.proofs.asking.requests_from.Given as goal
 
 abbrev pub invariant-loop-gap : goal.invariant-loop-gap

@@ -4,7 +4,7 @@ use mathlib.Core.Path.{◌≡◌}
 use Prim.Native.Nat.{◌+◌, ◌-◌}
 use native.Mathlib.Omega.{arith}
 use lib.ListN.{length}
-use Rattle.window.proofs.Steps.{Copied, copied_end, copied_long, copied_start, copied_step}
+use Rattle.window.proofs.Steps.{copied_end, copied_long, copied_start, copied_step}
 use Rattle.window.proofs.copying.put.Goals as goal
 
 pub loop-k-init : goal.loop-k-init

@@ -1,11 +1,8 @@
 -- Each turn puts sixteen bytes more, and the last sixteen come behind the loop.
 -- Assumes nothing.
-use mathlib.Core.Path.{◌≡◌}
-use Prim.Native.Nat.{◌+◌, ◌-◌}
-use native.Mathlib.Omega.{arith}
+use Prim.Native.Nat.{◌-◌}
 use lib.ListN.{length}
-use Rattle.window.proofs.Steps.{Copied, copied_end, copied_long, copied_start, copied_step}
-use borrow.Author.Rules.{rules}
+use Rattle.window.proofs.Steps.{Copied}
 use Rattle.window.proofs.copying.put.Given as goal
 
 abbrev pub invariant-loop-k : goal.invariant-loop-k

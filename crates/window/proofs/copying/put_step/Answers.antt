@@ -3,7 +3,6 @@
 use Prim.Native.Nat.{ℕ}
 use lib.ListN.{length-replicate}
 use Rattle.window.proofs.Steps.{stepped}
-use borrow.Author.Rules.{rules}
 use Rattle.window.proofs.copying.put_step.Goals as goal
 
 pub returns : goal.returns

@@ -1,11 +1,9 @@
 -- `window::count` meets its contract: the runs counted and those from here on are all of them.
 -- Assumes nothing.
 use borrow.Author.Rules.{rules}
-use mathlib.Core.Path.{◌≡◌, refl, ap, ◌∙◌, sym}
-use Prim.Native.Nat.{ℕ, ◌≤◌, ◌<◌, ◌+◌, ◌-◌}
+use mathlib.Core.Path.{ap}
 use native.Mathlib.Omega.{arith}
 use lib.ListN.{length}
-use Rattle.window.specs.Runs.{missing_in, runs_of}
 use Rattle.window.proofs.Splits.{gap_none, gap_some, up_to}
 use Rattle.window.proofs.missing.count.Goals as goal
 

@@ -1,12 +1,10 @@
 -- `window::count` meets its contract: the runs counted and those from here on are all of them.
 -- Assumes nothing.
-use borrow.Author.Rules.{rules}
-use mathlib.Core.Path.{◌≡◌, refl, ap, ◌∙◌, sym}
-use Prim.Native.Nat.{ℕ, ◌≤◌, ◌<◌, ◌+◌, ◌-◌}
-use native.Mathlib.Omega.{arith}
+use mathlib.Core.Path.{◌≡◌}
+use Prim.Native.Nat.{◌≤◌, ◌+◌, ◌-◌}
 use lib.ListN.{length}
 use Rattle.window.specs.Runs.{missing_in, runs_of}
-use Rattle.window.proofs.Splits.{gap_none, gap_some, up_to}
+use Rattle.window.proofs.Splits.{up_to}
 use Rattle.window.proofs.missing.count.Given as goal
 
 abbrev pub invariant-loop-next : goal.invariant-loop-next

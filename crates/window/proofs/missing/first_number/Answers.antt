@@ -1,10 +1,9 @@
 -- `window::first` meets its contract: what is left to look along gives the whole look.
 -- Assumes nothing.
 use borrow.Author.Rules.{rules}
-use mathlib.Core.Path.{◌≡◌, refl, ap, ◌∙◌, sym}
-use Prim.Native.Nat.{ℕ, ◌≤◌, ◌<◌, ◌+◌, ◌-◌}
+use mathlib.Core.Path.{refl, ap, ◌∙◌, sym}
 use native.Mathlib.Omega.{arith}
-use Rattle.window.specs.Runs.{first_from, missing_is}
+use Rattle.window.specs.Runs.{first_from}
 use Rattle.window.proofs.FirstNumber.{first_here, first_on, first_none, is_first}
 use Rattle.window.proofs.missing.first_number.Goals as goal
 

@@ -1,11 +1,8 @@
 -- `window::first` meets its contract: what is left to look along gives the whole look.
 -- Assumes nothing.
-use borrow.Author.Rules.{rules}
-use mathlib.Core.Path.{◌≡◌, refl, ap, ◌∙◌, sym}
-use Prim.Native.Nat.{ℕ, ◌≤◌, ◌<◌, ◌+◌, ◌-◌}
-use native.Mathlib.Omega.{arith}
+use mathlib.Core.Path.{◌≡◌}
+use Prim.Native.Nat.{◌≤◌, ◌-◌}
 use Rattle.window.specs.Runs.{first_from, missing_is}
-use Rattle.window.proofs.FirstNumber.{first_here, first_on, first_none, is_first}
 use Rattle.window.proofs.missing.first_number.Given as goal
 
 abbrev pub invariant-loop-k : goal.invariant-loop-k

@@ -1,7 +1,6 @@
 -- `window::missing_is` meets its contract: by the size at the number's place.
 -- Assumes nothing.
 use Rattle.window.proofs.FirstNumber.{is-missing, is_there_lem}
-use borrow.Author.Rules.{rules}
 use Rattle.window.proofs.missing.missing_is.Goals as goal
 
 pub returns-then-wanted : goal.returns-then-wanted

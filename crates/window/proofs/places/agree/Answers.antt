@@ -1,12 +1,9 @@
 -- `window::agree` meets its contract: the bytes passed agree, and the rest is what is left to compare.
 -- Assumes nothing.
 use borrow.Author.Rules.{rules}
-use mathlib.Core.Path.{◌≡◌, ◌∙◌}
-use Prim.Native.Nat.{◌≤◌, ◌+◌, ◌-◌}
 use native.Mathlib.Omega.{arith}
-use Rattle.wire.specs.Number.{part}
-use Rattle.window.specs.Window.{agreeing, start_of}
-use Rattle.window.proofs.Agreeing.{from, from_start, from_end, differs, agrees}
+use Rattle.window.specs.Window.{start_of}
+use Rattle.window.proofs.Agreeing.{from_start, from_end, differs, agrees}
 use Rattle.window.proofs.places.agree.Goals as goal
 
 pub loop-k-init : goal.loop-k-init

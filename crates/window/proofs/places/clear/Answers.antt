@@ -1,7 +1,6 @@
 -- `window::clear` meets its contract: 128 zeros are put.
 -- Assumes nothing.
 use Rattle.window.specs.Window.{zeros}
-use borrow.Author.Rules.{rules}
 use Rattle.window.proofs.places.clear.Goals as goal
 
 pub returns : goal.returns

@@ -1,7 +1,6 @@
 -- `window::size_at` meets its contract: the two size bytes.
 -- Assumes nothing.
 use Rattle.window.specs.Window.{size_at}
-use borrow.Author.Rules.{rules}
 use Rattle.window.proofs.places.size_at.Goals as goal
 
 pub returns : goal.returns

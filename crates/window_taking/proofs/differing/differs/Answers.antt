@@ -2,8 +2,7 @@
 -- Assumes nothing.
 use mathlib.Core.Path.{refl}
 use native.Mathlib.Omega.{arith}
-use borrow.Author.Rules.{rules}
-use Rattle.window_taking.proofs.Differs.{Seeking, seek_start, seek_end, seek_framed, seek_near, seek_room, seek_here, seek_next}
+use Rattle.window_taking.proofs.Differs.{seek_start, seek_end, seek_framed, seek_near, seek_room, seek_here, seek_next}
 use Rattle.window_taking.proofs.differing.differs.Goals as goal
 
 pub loop-left-init : goal.loop-left-init

@@ -1,9 +1,6 @@
 -- All messages of a packet against what waits, the rest of them at each turn.
 -- Assumes nothing.
-use mathlib.Core.Path.{refl}
-use native.Mathlib.Omega.{arith}
-use borrow.Author.Rules.{rules}
-use Rattle.window_taking.proofs.Differs.{Seeking, seek_start, seek_end, seek_framed, seek_near, seek_room, seek_here, seek_next}
+use Rattle.window_taking.proofs.Differs.{Seeking}
 use Rattle.window_taking.proofs.differing.differs.Given as goal
 
 abbrev pub invariant-loop-left : goal.invariant-loop-left

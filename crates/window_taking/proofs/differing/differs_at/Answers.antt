@@ -1,6 +1,5 @@
 -- One message against the copy that waits, by which of the two is shorter.
 -- Assumes nothing.
-use borrow.Author.Rules.{rules}
 use Rattle.window_taking.proofs.Differs.{passed_over, free, sizes, compared}
 use Rattle.window_taking.proofs.differing.differs_at.Goals as goal
 

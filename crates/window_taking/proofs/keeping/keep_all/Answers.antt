@@ -2,8 +2,7 @@
 -- Assumes nothing.
 use mathlib.Core.Path.{refl}
 use native.Mathlib.Omega.{arith}
-use borrow.Author.Rules.{rules}
-use Rattle.window_taking.proofs.Keeps.{Going, count_end, going_start, going_end, going_next, one_small, framed, near, room, far}
+use Rattle.window_taking.proofs.Keeps.{count_end, going_start, going_end, going_next, one_small, framed, near, room, far}
 use Rattle.window_taking.proofs.keeping.keep_all.Goals as goal
 
 pub loop-left-init : goal.loop-left-init

@@ -1,9 +1,6 @@
 -- All messages of a packet kept, the rest of them at each turn.
 -- Assumes nothing.
-use mathlib.Core.Path.{refl}
-use native.Mathlib.Omega.{arith}
-use borrow.Author.Rules.{rules}
-use Rattle.window_taking.proofs.Keeps.{Going, count_end, going_start, going_end, going_next, one_small, framed, near, room, far}
+use Rattle.window_taking.proofs.Keeps.{Going}
 use Rattle.window_taking.proofs.keeping.keep_all.Given as goal
 
 abbrev pub invariant-loop-left : goal.invariant-loop-left

@@ -1,7 +1,6 @@
 -- One message kept, by whether its number is below next and whether a copy waits.
 -- Assumes nothing.
 use mathlib.Core.Path.{◌∙◌, sym}
-use borrow.Author.Rules.{rules}
 use Rattle.window_taking.proofs.Windows.{count_again, count_new, count_old, passed_over, put, stays}
 use Rattle.window_taking.proofs.keeping.keep_one.Goals as goal
 
