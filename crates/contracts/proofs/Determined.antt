@@ -150,7 +150,7 @@ pub record Reader : Type 0 where
 pub reader : Reader
 reader = search once
 
--- The walks by hand have no `Post`. In its place stands what their one clause tells, at every model of the logic.
+-- Of the calls that are lent a reader or the orders each clause stands by itself: what it tells, at every model of the logic.
 abbrev Told : ((w : World) → Pr w) → Type 2
 Told clause = Read (λ w. emp w.𝓤) no_know clause
 
@@ -158,19 +158,19 @@ abbrev open_told : (κs : _) (packet : _) (both : _) (r : _) → Told (λ w. rea
 open_told κs packet both r = all_models _ (λ w. r_last _) (λ w. refl) (λ w. refl) (λ w. refl)
 
 abbrev refusal_told : (κs : _) (reader : _) (both : _) (r : _) → Told (λ w. reader-refusal.ensures-1 w.𝓛 κs w.𝓜.mem w.𝓡.run reader both r)
-refusal_told κs reader both r = all_models _ (λ w. r_last _) (λ w. refl) (λ w. refl) (λ w. refl)
+refusal_told κs lent_to both r = all_models _ (λ w. r_last _) (λ w. refl) (λ w. refl) (λ w. refl)
 
 abbrev step_told : (κs : _) (reader : _) (both : _) (r : _) → Told (λ w. reader-step.ensures-1 w.𝓛 κs w.𝓜.mem w.𝓡.run reader both r)
-step_told κs reader both r = all_models _ (λ w. r_last _) (λ w. refl) (λ w. refl) (λ w. refl)
+step_told κs lent_to both r = all_models _ (λ w. r_last _) (λ w. refl) (λ w. refl) (λ w. refl)
 
 pub reader_open_once : (κs : _) (packet : _) (both : _) (one other : _) → AllOf (open_told κs packet both one).tells → AllOf (open_told κs packet both other).tells → one ≡ other
 reader_open_once κs packet both one other = once
 
 pub reader_refusal_once : (κs : _) (reader : _) (both : _) (one other : _) → AllOf (refusal_told κs reader both one).tells → AllOf (refusal_told κs reader both other).tells → one ≡ other
-reader_refusal_once κs reader both one other = once
+reader_refusal_once κs lent_to both one other = once
 
 pub reader_step_once : (κs : _) (reader : _) (both : _) (one other : _) → AllOf (step_told κs reader both one).tells → AllOf (step_told κs reader both other).tells → seen one ≡ seen other
-reader_step_once κs reader both one other = once
+reader_step_once κs lent_to both one other = once
 
 -- ---- book
 
@@ -362,7 +362,7 @@ exports =
       exports_unlisted_once = named (λ κs a r s p. p);
     }
 
--- the six that are lent the orders: their walks are by hand, and their clauses are told as the reader's are
+-- the six that are lent the orders, each clause by itself, as the reader's are
 
 abbrev order_refusal : (κs : _) (session : _) (room : _) (id : _) (told : _) (session' : _) (room' : _) (id' : _) (told' : _) (r : _) → Told (λ w. exports-order.ensures-refusal w.𝓛 κs w.𝓜.mem w.𝓡.run session room id told session' room' id' told' r)
 order_refusal κs session room id told session' room' id' told' r = all_models _ (λ w. r_last _) (λ w. refl) (λ w. refl) (λ w. refl)
