@@ -7,21 +7,27 @@ use session::{asking, packets};
 use std::io;
 use window::asking::Asked;
 
-fn line(rt: &impl Print, label: &str, n: u64) -> io::Result<()> {
-    println!(rt; "{label}{n}")
+fn put(rt: &impl Print, text: &[u8]) -> io::Result<()> {
+    rt.write_all(text)
+}
+
+fn line(rt: &impl Print, label: &[u8], n: u64) -> io::Result<()> {
+    put(rt, label)?;
+    print!(rt; "{n}")?;
+    put(rt, b"\n")
 }
 
 fn answered(rt: &impl Print, answer: Answer) -> io::Result<()> {
     match answer {
-        Answer::Applied(count) => line(rt, "applied ", count),
-        Answer::Refused(number) => line(rt, "refused ", number as u64),
+        Answer::Applied(count) => line(rt, b"applied ", count),
+        Answer::Refused(number) => line(rt, b"refused ", number as u64),
     }
 }
 
 fn asked(rt: &impl Print, asked: Asked) -> io::Result<()> {
     match asked {
-        Asked::Count(count) => line(rt, "requests ", count as u64),
-        Asked::Refused(number) => line(rt, "refused ", number as u64),
+        Asked::Count(count) => line(rt, b"requests ", count as u64),
+        Asked::Refused(number) => line(rt, b"refused ", number as u64),
     }
 }
 
@@ -33,8 +39,8 @@ fn main(rt: HostRuntime) -> io::Result<()> {
     let taken = packets::take(session, &mut room, &mut window, &heartbeat);
     let answer = taken.answer;
     answered(&rt, answer)?;
-    line(&rt, "next ", asking::next(&room))?;
-    line(&rt, "end ", asking::end(&room))?;
+    line(&rt, b"next ", asking::next(&room))?;
+    line(&rt, b"end ", asking::end(&room))?;
     let mut requests = [0u8; 12];
     asked(&rt, asking::requests(&room, &window, &mut requests))
 }
