@@ -1,5 +1,5 @@
 // One id, header, message or packet by itself.
-ghost use Rattle.std.specs.Prelude.{◌≡◌, ◌∷◌, length};
+ghost use Rattle.std.specs.Prelude.{◌≡◌, [], ◌∷◌, length};
 ghost use Rattle.fields.specs.Id.{id_answer};
 ghost use Rattle.message.specs.Reading.{read_of};
 ghost use Rattle.packet.specs.Header.{header_of};
