@@ -2,7 +2,7 @@
 -- Assumes nothing.
 use mathlib.Core.Path.{◌≡◌, refl, ap, ap₂, ◌∙◌, sym, subst}
 use mathlib.Core.Bool.{Bool, true, false, cond, ◌&&◌}
-use mathlib.Core.List.{List, [], ◌++◌, append_assoc, append-nil}
+use mathlib.Core.List.{List, ◌++◌, append_assoc, append-nil}
 use Prim.Native.Nat.{ℕ, zero, suc, ◌+◌, ◌-◌, ◌*◌, ◌/◌, ◌≤◌, ◌<◌}
 use native.Mathlib.Omega.{arith}
 use native.Mathlib.Numerals.{add-one}
@@ -20,7 +20,7 @@ use Rattle.book.specs.declared.lookup.Parts.{Parts}
 use Rattle.book.specs.declared.asking.Level.{Level}
 use Rattle.session.specs.Quoting.{count_in, numbers_of, question_at, questions_from, quote_of, quoted_of, quotes_after, quotes_of}
 use Rattle.session_quotes.specs.declared.questions.Quest.{Quest}
-use Rattle.session_quotes.specs.Quests.{Asks, Fits, Reached, Reaching, Sought, Standing, due_of, good_at, none_at, onward_of, replied_by, side_at, start_of, symbol_at}
+use Rattle.session_quotes.specs.Quests.{Fits, Reached, Reaching, Sought, Standing, due_of, good_at, none_at, onward_of, replied_by, side_at, start_of, symbol_at}
 
 true_false : true ≡ false → ⊥
 true_false e = omega (arith, ap {B = ℕ} (λ (b : Bool). cond b 1 0) e)

@@ -2,7 +2,6 @@
 -- Assumes nothing.
 use Rattle.packet_reader.proofs.Frames.{found_some, found_within, moves, stays}
 use native.Mathlib.Omega.{arith}
-use borrow.Author.Rules.{rules}
 use Rattle.packet_reader.proofs.cursor.behind.Goals as goal
 
 pub returns-then-found-eq0 : goal.returns-then-found-eq0

@@ -1,7 +1,6 @@
 -- `packet_reader::cursor::frame_at` meets its contract: by whether the size is 0.
 -- Assumes nothing.
 use Rattle.packet_reader.proofs.Frames.{none-framed, some_framed}
-use borrow.Author.Rules.{rules}
 use Rattle.packet_reader.proofs.cursor.frame_at.Goals as goal
 
 pub returns-then-size-eq0 : goal.returns-then-size-eq0

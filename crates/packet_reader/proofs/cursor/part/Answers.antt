@@ -2,7 +2,6 @@
 -- Assumes nothing.
 use Rattle.packet_reader.proofs.Frames.{found_within, part_cut}
 use native.Mathlib.Omega.{arith}
-use borrow.Author.Rules.{rules}
 use Rattle.packet_reader.proofs.cursor.part.Goals as goal
 
 pub end_of-end-requires : goal.end_of-end-requires

@@ -1,7 +1,6 @@
 -- `packet_reader::cursor::size_at` meets its contract: none left, a cursor past the packet, or the walk's own step.
 -- Assumes nothing.
 use Rattle.packet_reader.proofs.Frames.{size_is, size_none, size_past}
-use borrow.Author.Rules.{rules}
 use Rattle.packet_reader.proofs.cursor.size_at.Goals as goal
 
 pub returns-then-cursor-eq0 : goal.returns-then-cursor-eq0

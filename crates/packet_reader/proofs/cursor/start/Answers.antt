@@ -4,7 +4,6 @@ use mathlib.Core.Path.{◌∙◌, sym}
 use Rattle.packet_reader.proofs.Frames.{start_accepted, start_refused}
 use Rattle.packet_reader.proofs.Refusals.{accepted}
 use native.Mathlib.Omega.{arith}
-use borrow.Author.Rules.{rules}
 use Rattle.packet_reader.proofs.cursor.start.Goals as goal
 
 pub returns-then-refusal-ne0 : goal.returns-then-refusal-ne0

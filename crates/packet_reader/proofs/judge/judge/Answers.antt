@@ -1,7 +1,6 @@
 -- `packet_reader::judge::judge` meets its contract: 1 to 8, with 8 left out.
 -- Assumes nothing.
 use Rattle.packet_reader.proofs.Refusals.{eight, others}
-use borrow.Author.Rules.{rules}
 use Rattle.packet_reader.proofs.judge.judge.Goals as goal
 
 pub returns-then-said-eq8 : goal.returns-then-said-eq8

@@ -1,9 +1,8 @@
 -- `packet_reader::number::cursor_of` meets its contract: the messages still to be passed, from where the cursor is, lead to the same cursor.
 -- Assumes nothing.
-use mathlib.Core.Path.{◌≡◌, ap, ◌∙◌, sym}
-use Prim.Native.Nat.{◌<◌}
+use mathlib.Core.Path.{ap, ◌∙◌, sym}
 use native.Mathlib.Omega.{arith}
-use Rattle.packet_reader.specs.Cursors.{after_of, start_of}
+use Rattle.packet_reader.specs.Cursors.{after_of}
 use Rattle.packet_reader.proofs.Handing.{after-all, after_one}
 use borrow.Author.Rules.{rules}
 use Rattle.packet_reader.proofs.number.cursor_of.Goals as goal

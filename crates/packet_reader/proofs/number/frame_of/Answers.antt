@@ -3,7 +3,6 @@
 use mathlib.Core.Path.{ap, ◌∙◌}
 use Rattle.packet_reader.specs.Cursors.{framed}
 use Rattle.packet_reader.proofs.Handing.{listed_at}
-use borrow.Author.Rules.{rules}
 use Rattle.packet_reader.proofs.number.frame_of.Goals as goal
 
 pub returns : goal.returns

@@ -1,13 +1,12 @@
 -- Four stores are one splice.
 -- Assumes nothing.
 use mathlib.Core.Path.{◌∙◌, ap}
-use mathlib.Core.List.{List, [], ◌∷◌}
+use mathlib.Core.List.{[], ◌∷◌}
 use Prim.Native.Nat.{ℕ}
 use native.Mathlib.Omega.{arith}
 use lib.ListN.{length-set}
 use Rattle.wire.specs.Number.{splice}
 use Rattle.wire.proofs.Splice.{stored_splice}
-use borrow.Author.Rules.{rules}
 use Rattle.session_quotes.proofs.questions.put.Goals as goal
 
 pub returns : goal.returns

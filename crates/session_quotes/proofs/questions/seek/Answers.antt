@@ -1,14 +1,8 @@
 -- A bad question is replied to and passed by; the first good one ends the look.
 -- Assumes nothing.
-use mathlib.Core.Path.{◌≡◌, refl}
-use mathlib.Core.List.{List}
-use Prim.Native.Nat.{ℕ, ◌+◌, ◌-◌, ◌*◌, ◌≤◌}
+use mathlib.Core.Path.{refl}
 use native.Mathlib.Omega.{arith}
-use lib.ListN.{length}
-use Rattle.book.specs.Tables.{Tables}
-use Rattle.session_quotes.specs.Quests.{Standing}
 use Rattle.session_quotes.proofs.Quests.{sought_none, sought_some, standing_bad, standing_inside, standing_room}
-use borrow.Author.Rules.{rules}
 use Rattle.session_quotes.proofs.questions.seek.Goals as goal
 
 pub returns-then-good_question : goal.returns-then-good_question

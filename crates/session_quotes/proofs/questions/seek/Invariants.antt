@@ -1,14 +1,11 @@
 -- A bad question is replied to and passed by; the first good one ends the look.
 -- Assumes nothing.
-use mathlib.Core.Path.{◌≡◌, refl}
+use mathlib.Core.Path.{◌≡◌}
 use mathlib.Core.List.{List}
-use Prim.Native.Nat.{ℕ, ◌+◌, ◌-◌, ◌*◌, ◌≤◌}
-use native.Mathlib.Omega.{arith}
+use Prim.Native.Nat.{ℕ, ◌-◌, ◌≤◌}
 use lib.ListN.{length}
 use Rattle.book.specs.Tables.{Tables}
 use Rattle.session_quotes.specs.Quests.{Standing}
-use Rattle.session_quotes.proofs.Quests.{sought_none, sought_some, standing_bad, standing_inside, standing_room}
-use borrow.Author.Rules.{rules}
 use Rattle.session_quotes.proofs.questions.seek.Given as goal
 
 abbrev pub invariant-loop-k : goal.invariant-loop-k

@@ -1,7 +1,6 @@
 -- By whether the replies fit.
 -- Assumes nothing.
 use Rattle.session_quotes.proofs.Quests.{start_all, start_few}
-use borrow.Author.Rules.{rules}
 use Rattle.session_quotes.proofs.questions.start.Goals as goal
 
 pub returns-then-replies-count : goal.returns-then-replies-count
