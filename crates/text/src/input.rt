@@ -1,4 +1,4 @@
-// Parts: standard input, read by the buffer.
+// Parts: an input, read by the buffer.
 ghost use Rattle.std.specs.Prelude.{◌≡◌, ◌+◌, ◌-◌, ◌≤◌, length, take, drop, IfOk};
 ghost use Rattle.text.specs.Input.{More};
 

@@ -26,6 +26,4 @@ unfolding command_of
 returns-in-7 c = of_count 7 c.count.ensures.is c.in-7.is c.word-word.ensures c.named-in-7.ensures
 
 pub returns-in_default : goal.returns-in_default
-returns-in_default c =
-    let r = c.in-1.rest in
-    of_no_count _ c.count.ensures.is r.0.0.0.0.1 r.0.0.0.1 r.0.0.1 r.0.1 r.1
+returns-in_default c = of_no_count _ c.count.ensures.is (search rules) (search rules) (search rules) (search rules) (search rules)

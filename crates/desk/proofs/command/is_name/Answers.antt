@@ -1,8 +1,8 @@
--- `desk::command::is_name` meets its contract.
+-- `desk::command::is_name` meets its contract: a comparison of slices goes byte by byte.
 -- Assumes nothing.
+use Rattle.std.proofs.Common.{◌∙◌}
 use Rattle.desk.proofs.Commands.{name_is}
-use borrow.Author.Rules.{rules}
 use Rattle.desk.proofs.command.is_name.Goals as goal
 
 pub returns : goal.returns
-returns c = name_is _ _ _ c.same.ensures.0 c.same.ensures.1
+returns c = c.eq.ensures ∙ name_is _ _

@@ -4,7 +4,7 @@ use borrow.Author.Rules.{rules}
 use Rattle.desk.proofs.moves.keep.Goals as goal
 
 pub keep-requires : goal.keep-requires
-keep-requires c = (c.args.session, c.requires)
+keep-requires g c = (c.args.session, c.requires)
 
 pub returns : goal.returns
-returns c = c.keep.ensures.held.1 c.args.session c.requires
+returns g c = c.keep.ensures.rule c.args.session c.requires

@@ -24,5 +24,4 @@ returns-in-115 c = by_trading _ _ _ _ _ c.in-115.is c.trading.ensures
 
 pub returns-in_default : goal.returns-in_default
 returns-in_default c =
-    let r = c.in-97.rest in
-    by_none _ _ _ _ _ r.0.0.0.0.0.1 r.0.0.0.0.1 r.0.0.0.1 r.0.0.1 r.0.1 r.1 c.none.ensures
+    by_none _ _ _ _ _ (search rules) (search rules) (search rules) (search rules) (search rules) (search rules) c.none.ensures

@@ -10,4 +10,4 @@ returns c =
     let second = kind.before in
     let first = second.before in
     let side = first.before in
-    told_is _ _ kind.letter.ensures side.number.ensures side.letter-side.ensures first.number-first.ensures second.number-second.ensures c.Named-by.ensures
+    told_is _ _ kind.letter.ensures side.number.ensures side.letter-side.ensures first.number-first.ensures second.number-second.ensures c.named_by.ensures
