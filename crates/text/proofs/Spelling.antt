@@ -9,8 +9,9 @@ use lib.ListN.{length, get_or, take, length-take}
 use lib.Seq.{take-suc, take_all}
 use Rattle.wire.specs.Number.{splice}
 use Rattle.wire.proofs.Place.{splice_next, splice-none}
+use Rattle.io.specs.Digits.{last_digits, IsDigitCount}
 use Rattle.text.specs.Hex.{two_of, spelt_of, hex_of}
-use Rattle.text.specs.Output.{Put}
+use Rattle.text.specs.Output.{Put, PutNumber}
 
 length_spelt : (bs : List ℕ) → length (spelt_of bs) ≡ length bs * 2
 unfolding spelt_of
@@ -76,3 +77,6 @@ module _ (old : List ℕ) (at : ℕ) (bs : List ℕ) (some : 0 < length bs) wher
         fits = λ h. (ap (λ (n : ℕ). at + n) (sym count-is), e ∙ ap (splice old at) (sym (spelt_word bs some)));
         full = λ h. absurd (omega (arith, count-is));
       }
+
+pub put_number_lem : (old : List ℕ) (at n count r : ℕ) (text new : List ℕ) → IsDigitCount 10 1 n count → text ≡ last_digits 10 count n → Put old at text r new → PutNumber old at n r new
+put_number_lem old at n count r text new few is-text put = record { count = count; fewest = few; put = rw is-text at put }

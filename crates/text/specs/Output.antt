@@ -1,6 +1,7 @@
 -- A text put at a place of a buffer, whole or not at all.
 -- Assumes nothing.
-use Rattle.std.specs.Prelude.{◌≡◌, List, ℕ, ◌+◌, ◌≤◌, ◌<◌, length, decimal}
+use Rattle.std.specs.Prelude.{◌≡◌, List, ℕ, ◌+◌, ◌≤◌, ◌<◌, length}
+use Rattle.io.specs.Digits.{last_digits, IsDigitCount}
 use Rattle.wire.specs.Number.{splice}
 
 -- r is the place behind the text, or the buffer's end where it did not fit
@@ -10,5 +11,7 @@ pub record Put (old : List ℕ) (at : ℕ) (text : List ℕ) (r : ℕ) (new : Li
   pub full : length old < at + length text → (r ≡ length old) × (new ≡ old)
 
 -- the same of a number in decimal, with no zero in front
-abbrev pub PutNumber : List ℕ → ℕ → ℕ → ℕ → List ℕ → Type 0
-PutNumber old at n r new = Put old at (decimal n) r new
+pub record PutNumber (old : List ℕ) (at n : ℕ) (r : ℕ) (new : List ℕ) : Type 0 where
+  pub count : ℕ
+  pub fewest : IsDigitCount 10 1 n count
+  pub put : Put old at (last_digits 10 count n) r new

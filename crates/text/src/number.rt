@@ -4,7 +4,6 @@ ghost use Rattle.text.specs.Numbers.{Digit, Number, none as noNumber};
 ghost use Rattle.text.specs.Output.{PutNumber};
 
 use crate::output;
-use itoa::Buffer;
 
 // A number that a word stands for, 0 where it stands for none.
 #[derive(Clone, Copy)]
@@ -64,6 +63,7 @@ fn digit_of(c: u8) -> u64
 pub fn put(out: &mut [u8], at: usize, n: u64) -> usize
     ensures { PutNumber out.old at n result out.new }
 {
-    let mut digits = Buffer::new();
-    output::put(out, at, digits.format(n).as_bytes())
+    let mut digits = [0u8; 20];
+    let count = io::decimal(n, &mut digits);
+    output::put(out, at, &digits[..count])
 }
