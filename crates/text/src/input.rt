@@ -1,5 +1,5 @@
 // Parts: an input, read by the buffer.
-ghost use Rattle.std.specs.Prelude.{◌≡◌, ◌+◌, ◌-◌, ◌≤◌, length, take, drop, IfOk};
+ghost use Rattle.std.specs.Prelude.{◌≡◌, ◌+◌, ◌-◌, ◌≤◌, length, take, drop, IfOk, OnErr};
 ghost use Rattle.text.specs.Input.{More};
 
 use std::io;
@@ -23,7 +23,8 @@ fn shift(buf: &mut [u8], from: usize, to: usize)
 
 // One read; 0 where the input has ended.
 fn read(input: &mut impl Read, buf: &mut [u8]) -> io::Result<usize>
-    ensures { IfOk result (λ got. got ≤ length buf.new) }
+    ensures ok { IfOk result (λ got. got ≤ length buf.new) }
+    ensures err { OnErr result (length buf.new ≡ length buf.old) }
 {
     input.read(buf)
 }
@@ -31,7 +32,8 @@ fn read(input: &mut impl Read, buf: &mut [u8]) -> io::Result<usize>
 // Moves what is held to the front, reads once behind it, and answers how many bytes came.
 pub fn more(input: &mut impl Read, buf: &mut [u8], from: usize, to: usize) -> io::Result<usize>
     requires { (from ≤ to) × (to ≤ length buf.old) }
-    ensures { IfOk result (λ got. More buf.old from to got buf.new) }
+    ensures ok { IfOk result (λ got. More buf.old from to got buf.new) }
+    ensures err { OnErr result (take (to - from) buf.new ≡ take (to - from) (drop from buf.old)) }
 {
     shift(buf, from, to);
     let kept = to - from;
