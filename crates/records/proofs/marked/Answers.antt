@@ -2,7 +2,6 @@
 -- Assumes nothing.
 use borrow.Author.Tests.{eq-eqb, ne_eqb}
 use Rattle.records.specs.Records.{marked_at}
-use borrow.Author.Rules.{rules}
 use Rattle.records.proofs.marked.Goals as goal
 
 pub returns-then-held-at : goal.returns-then-held-at

@@ -1,7 +1,6 @@
 -- `records::unmarked` meets its contract.
 -- Assumes nothing.
 use Rattle.records.proofs.Heads.{not_unmarked, unmarked_by}
-use borrow.Author.Rules.{rules}
 use Rattle.records.proofs.unmarked.Goals as goal
 
 pub returns-then-held-at-lt-HEAD : goal.returns-then-held-at-lt-HEAD

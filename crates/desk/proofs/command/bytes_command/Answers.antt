@@ -2,7 +2,6 @@
 -- Assumes nothing.
 use mathlib.Core.Path.{◌∙◌, sym}
 use Rattle.desk.specs.Commands.{bytes_command}
-use borrow.Author.Rules.{rules}
 use Rattle.desk.proofs.command.bytes_command.Goals as goal
 
 pub returns-then-is_name : goal.returns-then-is_name

@@ -2,7 +2,6 @@
 -- Assumes nothing.
 use mathlib.Core.Path.{◌∙◌, sym}
 use Rattle.desk.specs.Commands.{named_of}
-use borrow.Author.Rules.{rules}
 use Rattle.desk.proofs.command.named.Goals as goal
 
 pub returns-then-is_name : goal.returns-then-is_name

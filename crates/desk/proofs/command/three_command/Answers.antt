@@ -2,7 +2,6 @@
 -- Assumes nothing.
 use mathlib.Core.Path.{◌∙◌, sym}
 use Rattle.desk.specs.Commands.{three_command}
-use borrow.Author.Rules.{rules}
 use Rattle.desk.proofs.command.three_command.Goals as goal
 
 pub returns-then-is_name : goal.returns-then-is_name

@@ -1,7 +1,6 @@
 -- `desk::lines::feed` stays between its two places.
 -- Assumes nothing.
 use Prim.Native.Nat.{◌≤◌, ◌-◌}
-use borrow.Author.Rules.{rules}
 use Rattle.desk.proofs.lines.feed.Given as goal
 
 abbrev pub invariant-loop-k : goal.invariant-loop-k

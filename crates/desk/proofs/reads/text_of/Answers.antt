@@ -1,7 +1,6 @@
 -- `desk::reads::text_of` meets its contract.
 -- Assumes nothing.
 use mathlib.Core.Path.{refl}
-use borrow.Author.Rules.{rules}
 use Rattle.desk.proofs.reads.text_of.Goals as goal
 
 pub returns : goal.returns

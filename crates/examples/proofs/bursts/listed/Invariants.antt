@@ -1,6 +1,5 @@
 -- `examples::bursts::listed` is safe: the index stays within the list.
 -- Assumes nothing.
-use borrow.Author.Rules.{rules}
 use Prim.Native.Nat.{◌≤◌, ◌-◌}
 use lib.ListN.{length}
 use Rattle.examples.proofs.bursts.listed.Given as goal

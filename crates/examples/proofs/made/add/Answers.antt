@@ -1,6 +1,5 @@
 -- `examples::made::add` meets its contract: its id is the one that `id_of` gives.
 -- Assumes nothing.
-use borrow.Author.Rules.{rules}
 use Rattle.examples.proofs.Texts.{id_is}
 use Rattle.examples.proofs.made.add.Goals as goal
 

@@ -1,6 +1,5 @@
 -- `examples::made::told` meets its contract, a word at a time.
 -- Assumes nothing.
-use borrow.Author.Rules.{rules}
 use Rattle.examples.proofs.Told.{told_is}
 use Rattle.examples.proofs.made.told.Goals as goal
 

@@ -1,6 +1,5 @@
 -- `examples::made::top` meets its contract: its symbol is the one that `symbol_of` gives.
 -- Assumes nothing.
-use borrow.Author.Rules.{rules}
 use Rattle.examples.proofs.Texts.{symbol_is}
 use Rattle.examples.proofs.made.top.Goals as goal
 

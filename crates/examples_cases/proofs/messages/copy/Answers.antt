@@ -1,10 +1,7 @@
 -- `cases::messages::copy` is safe: the loop keeps the length of what it writes.
 -- Assumes nothing.
-use borrow.Author.Rules.{rules}
-use mathlib.Core.Path.{◌≡◌}
-use Prim.Native.Nat.{◌-◌}
 use native.Mathlib.Omega.{arith}
-use lib.ListN.{length, length-set}
+use lib.ListN.{length-set}
 use Rattle.examples_cases.proofs.messages.copy.Goals as goal
 
 pub loop-k-preserved : goal.loop-k-preserved

@@ -1,10 +1,8 @@
 -- `cases::messages::copy` is safe: the loop keeps the length of what it writes.
 -- Assumes nothing.
-use borrow.Author.Rules.{rules}
 use mathlib.Core.Path.{◌≡◌}
 use Prim.Native.Nat.{◌-◌}
-use native.Mathlib.Omega.{arith}
-use lib.ListN.{length, length-set}
+use lib.ListN.{length}
 use Rattle.examples_cases.proofs.messages.copy.Given as goal
 
 abbrev pub invariant-loop-k : goal.invariant-loop-k

@@ -1,6 +1,5 @@
 -- `cases::rows::behind` meets its contract.
 -- Assumes nothing.
-use borrow.Author.Rules.{rules}
 use Rattle.examples_cases.proofs.Places.{behind-is}
 use Rattle.examples_cases.proofs.rows.behind.Goals as goal
 

@@ -1,9 +1,7 @@
 -- `cases::rows::find` meets its contract: what it passed is no such byte.
 -- Assumes nothing.
 use mathlib.Core.Path.{refl}
-use Prim.Native.Nat.{◌≤◌, ◌-◌}
-use lib.ListN.{length}
-use Rattle.examples_cases.proofs.Places.{Ahead, ahead_more, ahead_here, ahead_end}
+use Rattle.examples_cases.proofs.Places.{ahead_more, ahead_here, ahead_end}
 use borrow.Author.Rules.{rules}
 use Rattle.examples_cases.proofs.rows.find.Goals as goal
 

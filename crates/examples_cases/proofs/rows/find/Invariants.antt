@@ -1,10 +1,8 @@
 -- `cases::rows::find` meets its contract: what it passed is no such byte.
 -- Assumes nothing.
-use mathlib.Core.Path.{refl}
 use Prim.Native.Nat.{◌≤◌, ◌-◌}
 use lib.ListN.{length}
-use Rattle.examples_cases.proofs.Places.{Ahead, ahead_more, ahead_here, ahead_end}
-use borrow.Author.Rules.{rules}
+use Rattle.examples_cases.proofs.Places.{Ahead}
 use Rattle.examples_cases.proofs.rows.find.Given as goal
 
 abbrev pub invariant-loop-k : goal.invariant-loop-k

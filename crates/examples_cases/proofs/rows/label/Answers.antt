@@ -1,6 +1,5 @@
 -- `cases::rows::label` meets its contract.
 -- Assumes nothing.
-use borrow.Author.Rules.{rules}
 use Rattle.examples_cases.proofs.Places.{label_is}
 use Rattle.examples_cases.proofs.rows.label.Goals as goal
 

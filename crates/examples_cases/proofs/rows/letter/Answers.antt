@@ -1,6 +1,5 @@
 -- `cases::rows::letter` meets its contract.
 -- Assumes nothing.
-use borrow.Author.Rules.{rules}
 use Rattle.examples_cases.proofs.Places.{letter_is, no_letter}
 use Rattle.examples_cases.proofs.rows.letter.Goals as goal
 

@@ -1,6 +1,5 @@
 -- `cases::rows::number` meets its contract.
 -- Assumes nothing.
-use borrow.Author.Rules.{rules}
 use Rattle.examples_cases.proofs.Places.{value_is}
 use Rattle.examples_cases.proofs.rows.number.Goals as goal
 

@@ -1,11 +1,9 @@
 -- `text::hex::fill` meets its contract: the bytes so far, and those of the digits behind them, are the word's.
 -- Assumes nothing.
 use mathlib.Core.Path.{◌≡◌, refl, ◌∙◌, sym}
-use mathlib.Core.List.{◌++◌}
-use Prim.Native.Nat.{ℕ, ◌≤◌, ◌-◌, ◌*◌}
+use Prim.Native.Nat.{ℕ}
 use native.Mathlib.Omega.{arith}
-use lib.ListN.{length, take, drop, length-set}
-use Rattle.text.specs.Hex.{is_pairs, bytes_of}
+use lib.ListN.{length-set}
 use Rattle.text.proofs.Pairs.{pairs_more, pairs_none, pairs_all, bytes_more, bytes_all}
 use borrow.Author.Rules.{rules}
 use Rattle.text.proofs.hex.fill.Goals as goal

@@ -1,13 +1,10 @@
 -- `text::hex::fill` meets its contract: the bytes so far, and those of the digits behind them, are the word's.
 -- Assumes nothing.
-use mathlib.Core.Path.{◌≡◌, refl, ◌∙◌, sym}
+use mathlib.Core.Path.{◌≡◌}
 use mathlib.Core.List.{◌++◌}
-use Prim.Native.Nat.{ℕ, ◌≤◌, ◌-◌, ◌*◌}
-use native.Mathlib.Omega.{arith}
-use lib.ListN.{length, take, drop, length-set}
+use Prim.Native.Nat.{◌≤◌, ◌-◌, ◌*◌}
+use lib.ListN.{length, take, drop}
 use Rattle.text.specs.Hex.{is_pairs, bytes_of}
-use Rattle.text.proofs.Pairs.{pairs_more, pairs_none, pairs_all, bytes_more, bytes_all}
-use borrow.Author.Rules.{rules}
 use Rattle.text.proofs.hex.fill.Given as goal
 
 abbrev pub invariant-loop-k : goal.invariant-loop-k

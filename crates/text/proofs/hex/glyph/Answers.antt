@@ -2,7 +2,6 @@
 -- Assumes nothing.
 use borrow.Author.Tests.{lt-ltb, le-ltb}
 use Rattle.text.specs.Hex.{glyph_of}
-use borrow.Author.Rules.{rules}
 use Rattle.text.proofs.hex.glyph.Goals as goal
 
 pub returns-then-digit-lt10 : goal.returns-then-digit-lt10

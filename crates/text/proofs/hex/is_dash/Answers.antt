@@ -1,7 +1,6 @@
 -- `text::hex::is_dash` meets its contract.
 -- Assumes nothing.
 use Rattle.text.proofs.Pairs.{dash_one, dash_none}
-use borrow.Author.Rules.{rules}
 use Rattle.text.proofs.hex.is_dash.Goals as goal
 
 pub returns-then-word-eq1 : goal.returns-then-word-eq1

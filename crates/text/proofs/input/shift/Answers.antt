@@ -1,10 +1,10 @@
 -- `text::input::shift` meets its contract: a turn moves one byte more.
 -- Assumes nothing.
-use mathlib.Core.Path.{◌≡◌, refl}
-use Prim.Native.Nat.{◌≤◌, ◌-◌}
+use mathlib.Core.Path.{refl}
+use Prim.Native.Nat.{◌-◌}
 use native.Mathlib.Omega.{arith}
-use lib.ListN.{length, length-set}
-use Rattle.text.proofs.Moving.{Moved, moved_more, moved_all, moved_none}
+use lib.ListN.{length-set}
+use Rattle.text.proofs.Moving.{moved_more, moved_all, moved_none}
 use borrow.Author.Rules.{rules}
 use Rattle.text.proofs.input.shift.Goals as goal
 

@@ -1,11 +1,9 @@
 -- `text::input::shift` meets its contract: a turn moves one byte more.
 -- Assumes nothing.
-use mathlib.Core.Path.{◌≡◌, refl}
+use mathlib.Core.Path.{◌≡◌}
 use Prim.Native.Nat.{◌≤◌, ◌-◌}
-use native.Mathlib.Omega.{arith}
-use lib.ListN.{length, length-set}
-use Rattle.text.proofs.Moving.{Moved, moved_more, moved_all, moved_none}
-use borrow.Author.Rules.{rules}
+use lib.ListN.{length}
+use Rattle.text.proofs.Moving.{Moved}
 use Rattle.text.proofs.input.shift.Given as goal
 
 abbrev pub invariant-loop-k : goal.invariant-loop-k

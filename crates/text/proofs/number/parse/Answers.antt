@@ -1,10 +1,7 @@
 -- `text::number::parse` meets its contract: what the rest of the word gives behind the number so far is the answer.
 -- Assumes nothing.
-use mathlib.Core.Path.{◌≡◌, ◌∙◌, sym}
-use Prim.Native.Nat.{◌≤◌, ◌-◌}
+use mathlib.Core.Path.{◌∙◌, sym}
 use native.Mathlib.Omega.{arith}
-use lib.ListN.{length, drop}
-use Rattle.text.specs.Numbers.{number_from, number_of}
 use Rattle.text.proofs.Numbers.{goes_on, no_digit, too_large, at_end, at_start_lem, no_word, is_none}
 use borrow.Author.Rules.{rules}
 use Rattle.text.proofs.number.parse.Goals as goal

@@ -1,12 +1,9 @@
 -- `text::words::count` meets its contract: the words behind those counted give the count.
 -- Assumes nothing.
 use mathlib.Core.Path.{◌≡◌}
-use mathlib.Core.Path.{refl, ◌∙◌, sym}
 use Prim.Native.Nat.{◌≤◌, ◌-◌}
 use lib.ListN.{length, drop}
 use Rattle.text.specs.Words.{count_from, count_of, words_of}
-use Rattle.text.proofs.Scanning.{counted_none, counted_last, counted_more}
-use borrow.Author.Rules.{rules}
 use Rattle.text.proofs.words.count.Given as goal
 
 abbrev pub invariant-loop-from : goal.invariant-loop-from

@@ -1,8 +1,6 @@
 -- `text::words::end` meets its contract: what it passed has no space.
 -- Assumes nothing.
-use Prim.Native.Nat.{◌≤◌, ◌-◌}
-use lib.ListN.{length}
-use Rattle.text.proofs.Scanning.{Scanned, scan_none, scan_more, scan_space, scan_end}
+use Rattle.text.proofs.Scanning.{scan_none, scan_more, scan_space, scan_end}
 use borrow.Author.Rules.{rules}
 use Rattle.text.proofs.words.end.Goals as goal
 

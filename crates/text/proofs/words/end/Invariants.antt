@@ -2,8 +2,7 @@
 -- Assumes nothing.
 use Prim.Native.Nat.{◌≤◌, ◌-◌}
 use lib.ListN.{length}
-use Rattle.text.proofs.Scanning.{Scanned, scan_none, scan_more, scan_space, scan_end}
-use borrow.Author.Rules.{rules}
+use Rattle.text.proofs.Scanning.{Scanned}
 use Rattle.text.proofs.words.end.Given as goal
 
 abbrev pub invariant-loop-k : goal.invariant-loop-k

@@ -1,12 +1,10 @@
 -- `text::words::start` meets its contract: the word is the one with so many others before it from here on.
 -- Assumes nothing.
 use mathlib.Core.Path.{◌≡◌}
-use mathlib.Core.Path.{refl, ◌∙◌, sym}
-use Prim.Native.Nat.{◌≤◌, ◌-◌}
+use Prim.Native.Nat.{◌≤◌}
 use lib.ListN.{length}
 use Rattle.text.specs.Words.{word_of}
-use Rattle.text.proofs.Scanning.{nth, nth_left, nth_none, nth_more}
-use borrow.Author.Rules.{rules}
+use Rattle.text.proofs.Scanning.{nth}
 use Rattle.text.proofs.words.start.Given as goal
 
 abbrev pub invariant-loop-left : goal.invariant-loop-left

@@ -2,7 +2,6 @@
 -- Assumes nothing.
 use mathlib.Core.Path.{◌∙◌, sym}
 use Rattle.text.proofs.Scanning.{nth_first}
-use borrow.Author.Rules.{rules}
 use Rattle.text.proofs.words.word.Goals as goal
 
 pub returns : goal.returns
