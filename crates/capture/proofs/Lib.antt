@@ -1,2 +1,3 @@
 -- Laws of `capture`.
+pub mod Errors
 pub mod Strict

@@ -1,5 +1,5 @@
 // What is printed: each line is put at a place of a buffer, and the place behind it answered.
-ghost use Rattle.std.specs.Prelude.{◌≤◌, length, IfOk};
+ghost use Rattle.std.specs.Prelude.{◌≡◌, ◌≤◌, length, IfOk, OnErr};
 
 use session::packets::Answer;
 use std::io;
@@ -10,7 +10,8 @@ const ROOM: usize = 64;
 
 // Where the next line goes: the front, with all before it written, where it might not fit.
 pub fn place(rt: &impl Print, out: &mut [u8], at: usize) -> io::Result<usize>
-    ensures { IfOk result (λ next. next ≤ length out.new) }
+    ensures ok { IfOk result (λ next. next ≤ length out.new) }
+    ensures err { OnErr result (out.new ≡ out.old) }
 {
     let size = out.len();
     if size < ROOM {

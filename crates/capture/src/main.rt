@@ -3,7 +3,7 @@
 
 mod lines;
 
-ghost use Rattle.std.specs.Prelude.{length, IfOk};
+ghost use Rattle.std.specs.Prelude.{length, IfOk, OnErr};
 ghost use Rattle.session.specs.Meaning.{held, Ruled};
 ghost use Rattle.session.specs.declared.state.Session.{Session as Table};
 ghost use Rattle.capture.specs.Replays.{Replays, Strictly};
@@ -57,7 +57,8 @@ fn replay(
     bytes: &[u8],
 ) -> io::Result<Replayed>
     requires { Strictly (held session room.old window.old) }
-    ensures { IfOk result (λ replayed. Replays replayed room.new window.new (length bytes.now)) }
+    ensures ok { IfOk result (λ replayed. Replays replayed room.new window.new (length bytes.now)) }
+    ensures err { OnErr result ((session : Table) × Strictly (held session room.new window.new)) }
 {
     let mut session = opened(session, room, window, fresh, bytes);
     let mut out = [0u8; 8192];

@@ -1,6 +1,7 @@
 // The commands that keep packets and apply what waits: the taking of a packet in its two halves.
-ghost use Rattle.std.specs.Prelude.{IfOk};
+ghost use Rattle.std.specs.Prelude.{IfOk, OnErr};
 ghost use Rattle.session.specs.Meaning.{held, Ruled};
+ghost use Rattle.session.specs.declared.state.Session.{Session as Table};
 
 use crate::made::told;
 use crate::{answers, made};
@@ -24,7 +25,8 @@ pub fn step(
     line: &[u8],
 ) -> io::Result<Session>
     requires { Ruled (held session room.old window.old) }
-    ensures { IfOk result (λ next. Ruled (held next room.new window.new)) }
+    ensures ok { IfOk result (λ next. Ruled (held next room.new window.new)) }
+    ensures err { OnErr result ((session : Table) × Ruled (held session room.new window.new)) }
 {
     match rows::letter(line, 0) {
         b'a' => applied(rt, session, room, window, line),
@@ -41,7 +43,8 @@ fn applied(
     line: &[u8],
 ) -> io::Result<Session>
     requires { Ruled (held session room.old window.old) }
-    ensures { IfOk result (λ next. Ruled (held next room.new window.new)) }
+    ensures ok { IfOk result (λ next. Ruled (held next room.new window.new)) }
+    ensures err { OnErr result ((session : Table) × Ruled (held session room.new window.new)) }
 {
     let done = packets::apply(session, room, window, number(line, 1));
     let label = rows::label(line);
@@ -61,7 +64,8 @@ pub fn then(
     m: Message,
 ) -> io::Result<Session>
     requires { Ruled (held session room.old window.old) }
-    ensures { IfOk result (λ next. Ruled (held next room.new window.new)) }
+    ensures ok { IfOk result (λ next. Ruled (held next room.new window.new)) }
+    ensures err { OnErr result ((session : Table) × Ruled (held session room.new window.new)) }
 {
     sent(rt, session, room, window, seq, m, made::none(), b"")
 }
@@ -76,7 +80,8 @@ fn kept(
     line: &[u8],
 ) -> io::Result<Session>
     requires { Ruled (held session room.old window.old) }
-    ensures { IfOk result (λ next. Ruled (held next room.new window.new)) }
+    ensures ok { IfOk result (λ next. Ruled (held next room.new window.new)) }
+    ensures err { OnErr result ((session : Table) × Ruled (held session room.new window.new)) }
 {
     let label = rows::label(line);
     if rows::letter(line, 2) == b'b' {
@@ -104,7 +109,8 @@ fn beat(
     label: &[u8],
 ) -> io::Result<Session>
     requires { Ruled (held session room.old window.old) }
-    ensures { IfOk result (λ next. Ruled (held next room.new window.new)) }
+    ensures ok { IfOk result (λ next. Ruled (held next room.new window.new)) }
+    ensures err { OnErr result ((session : Table) × Ruled (held session room.new window.new)) }
 {
     let mut buf = [0u8; 12];
     made::head(&mut buf, 12, seq, 1, 0);
@@ -122,7 +128,8 @@ fn sent(
     label: &[u8],
 ) -> io::Result<Session>
     requires { Ruled (held session room.old window.old) }
-    ensures { IfOk result (λ next. Ruled (held next room.new window.new)) }
+    ensures ok { IfOk result (λ next. Ruled (held next room.new window.new)) }
+    ensures err { OnErr result ((session : Table) × Ruled (held session room.new window.new)) }
 {
     let mut buf = [0u8; 256];
     let size = made::packet_of(&mut buf, seq, first, second);
@@ -139,7 +146,8 @@ fn handed(
     label: &[u8],
 ) -> io::Result<Session>
     requires { Ruled (held session room.old window.old) }
-    ensures { IfOk result (λ next. Ruled (held next room.new window.new)) }
+    ensures ok { IfOk result (λ next. Ruled (held next room.new window.new)) }
+    ensures err { OnErr result ((session : Table) × Ruled (held session room.new window.new)) }
 {
     let said = keeping::keep(room, window, packet);
     if label.len() != 0 {

@@ -1,5 +1,5 @@
 // Messages and packets made for the cases.
-ghost use Rattle.std.specs.Prelude.{◌≡◌, ◌≤◌, length, IfOk};
+ghost use Rattle.std.specs.Prelude.{◌≡◌, ◌≤◌, length, IfOk, OnErr};
 ghost use Rattle.session.specs.Meaning.{held, Ruled};
 ghost use Rattle.session.specs.declared.state.Session.{Session as Table};
 ghost use Rattle.examples.specs.Made.{add_of, delete_of, execution_of, id_of, message_by, named_of, no_message, symbol_of, told_of, top_of, trading_of, update_of};
@@ -285,7 +285,8 @@ pub fn filled(
     count: u16,
 ) -> io::Result<Session>
     requires { (session : Table) × Ruled (held session room.old window.old) }
-    ensures { IfOk result (λ next. Ruled (held next room.new window.new)) }
+    ensures ok { IfOk result (λ next. Ruled (held next room.new window.new)) }
+    ensures err { OnErr result ((session : Table) × Ruled (held session room.new window.new)) }
 {
     let mut session = fresh(room, window, 1);
     let mut k: u16 = 0;
@@ -314,7 +315,8 @@ fn nth(
     k: u16,
 ) -> io::Result<Session>
     requires { Ruled (held session room.old window.old) }
-    ensures { IfOk result (λ next. Ruled (held next room.new window.new)) }
+    ensures ok { IfOk result (λ next. Ruled (held next room.new window.new)) }
+    ensures err { OnErr result ((session : Table) × Ruled (held session room.new window.new)) }
 {
     let seq = k as u32 + 1;
     match kind {

@@ -1,7 +1,7 @@
 // Packets handed to a session: what they do to its tables, which are refused, what waits, and what is
 // asked for again. A line goes on with the session that the line before it left, and one with no label
 // prints nothing.
-ghost use Rattle.std.specs.Prelude.{IfOk};
+ghost use Rattle.std.specs.Prelude.{IfOk, OnErr};
 ghost use Rattle.session.specs.Meaning.{held, Ruled};
 ghost use Rattle.session.specs.declared.state.Session.{Session as Table};
 
@@ -242,7 +242,8 @@ fn step(
     line: &[u8],
 ) -> io::Result<Session>
     requires { Ruled (held session room.old window.old) }
-    ensures { IfOk result (λ next. Ruled (held next room.new window.new)) }
+    ensures ok { IfOk result (λ next. Ruled (held next room.new window.new)) }
+    ensures err { OnErr result ((session : Table) × Ruled (held session room.new window.new)) }
 {
     let n = (number(line, 1) % 4294967296) as u32;
     match rows::letter(line, 0) {
@@ -267,7 +268,8 @@ fn filled(
     line: &[u8],
 ) -> io::Result<Session>
     requires { (session : Table) × Ruled (held session room.old window.old) }
-    ensures { IfOk result (λ next. Ruled (held next room.new window.new)) }
+    ensures ok { IfOk result (λ next. Ruled (held next room.new window.new)) }
+    ensures err { OnErr result ((session : Table) × Ruled (held session room.new window.new)) }
 {
     made::filled(
         rt,
@@ -288,7 +290,8 @@ fn took(
     line: &[u8],
 ) -> io::Result<Session>
     requires { Ruled (held session room.old window.old) }
-    ensures { IfOk result (λ next. Ruled (held next room.new window.new)) }
+    ensures ok { IfOk result (λ next. Ruled (held next room.new window.new)) }
+    ensures err { OnErr result ((session : Table) × Ruled (held session room.new window.new)) }
 {
     let taken = handed(session, room, window, n, line);
     let label = rows::label(line);
