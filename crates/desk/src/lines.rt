@@ -1,5 +1,5 @@
 // The lines of standard input.
-ghost use Rattle.std.specs.Prelude.{◌≡◌, ◌+◌, ◌-◌, ◌≤◌, length, IfOk};
+ghost use Rattle.std.specs.Prelude.{◌≡◌, ◌+◌, ◌-◌, ◌≤◌, length, IfOk, OnErr};
 ghost use Rattle.desk.specs.Commands.{is_none};
 ghost use Rattle.desk.specs.Lines.{Lies};
 
@@ -128,7 +128,8 @@ pub fn next(
     ended: bool,
 ) -> io::Result<Line>
     requires { (from ≤ to) × (to ≤ length buf.old) }
-    ensures { IfOk result (λ line. Lies line (length buf.new)) }
+    ensures ok { IfOk result (λ line. Lies line (length buf.new)) }
+    ensures err { OnErr result (length buf.new ≡ length buf.old) }
 {
     if ended {
         return Ok(rest(false, 0));

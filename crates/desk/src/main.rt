@@ -9,8 +9,9 @@ mod reads;
 mod walks;
 mod writes;
 
-ghost use Rattle.std.specs.Prelude.{IfOk};
+ghost use Rattle.std.specs.Prelude.{IfOk, OnErr};
 ghost use Rattle.session.specs.Meaning.{held, Ruled};
+ghost use Rattle.session.specs.declared.state.Session.{Session as Table};
 
 use book_room::room::Room;
 use command::Command;
@@ -65,7 +66,8 @@ fn carry_out(
     line: &[u8],
 ) -> io::Result<Session>
     requires { Ruled (held session room.old window.old) }
-    ensures { IfOk result (λ next. Ruled (held next room.new window.new)) }
+    ensures ok { IfOk result (λ next. Ruled (held next room.new window.new)) }
+    ensures err { OnErr result ((session : Table) × Ruled (held session room.new window.new)) }
 {
     let command = command::command_of(line);
     match command {
@@ -91,7 +93,8 @@ fn respond(
     line: &[u8],
 ) -> io::Result<Session>
     requires { Ruled (held session room.old window.old) }
-    ensures { IfOk result (λ next. Ruled (held next room.new window.new)) }
+    ensures ok { IfOk result (λ next. Ruled (held next room.new window.new)) }
+    ensures err { OnErr result ((session : Table) × Ruled (held session room.new window.new)) }
 {
     match kind {
         Kind::Whole => carry_out(rt, session, room, window, line),

@@ -1,6 +1,7 @@
 // The commands that change the session: open, take, keep, apply.
-ghost use Rattle.std.specs.Prelude.{IfOk};
+ghost use Rattle.std.specs.Prelude.{IfOk, OnErr};
 ghost use Rattle.session.specs.Meaning.{held, Ruled};
+ghost use Rattle.session.specs.declared.state.Session.{Session as Table};
 
 use crate::command::is_name;
 use crate::reads;
@@ -27,7 +28,8 @@ pub fn open(
     line: &[u8],
 ) -> io::Result<Session>
     requires { Ruled (held session room.old window.old) }
-    ensures { IfOk result (λ next. Ruled (held next room.new window.new)) }
+    ensures ok { IfOk result (λ next. Ruled (held next room.new window.new)) }
+    ensures err { OnErr result ((session : Table) × Ruled (held session room.new window.new)) }
 {
     let first = parse(word(line, 1), 4294967295);
     if !first.good {
@@ -47,7 +49,8 @@ pub fn open_strict(
     line: &[u8],
 ) -> io::Result<Session>
     requires { Ruled (held session room.old window.old) }
-    ensures { IfOk result (λ next. Ruled (held next room.new window.new)) }
+    ensures ok { IfOk result (λ next. Ruled (held next room.new window.new)) }
+    ensures err { OnErr result ((session : Table) × Ruled (held session room.new window.new)) }
 {
     if !is_name(word(line, 2), b"strict") {
         bad(rt)?;
@@ -70,7 +73,8 @@ pub fn take(
     line: &[u8],
 ) -> io::Result<Session>
     requires { Ruled (held session room.old window.old) }
-    ensures { IfOk result (λ next. Ruled (held next room.new window.new)) }
+    ensures ok { IfOk result (λ next. Ruled (held next room.new window.new)) }
+    ensures err { OnErr result ((session : Table) × Ruled (held session room.new window.new)) }
 {
     let mut lent = [0u8; reads::LENT];
     let got = hex::parse(word(line, 1), &mut lent);
@@ -100,7 +104,8 @@ pub fn keep(
     line: &[u8],
 ) -> io::Result<Session>
     requires { Ruled (held session room.old window.old) }
-    ensures { IfOk result (λ next. Ruled (held next room.new window.new)) }
+    ensures ok { IfOk result (λ next. Ruled (held next room.new window.new)) }
+    ensures err { OnErr result ((session : Table) × Ruled (held session room.new window.new)) }
 {
     let mut lent = [0u8; reads::LENT];
     let got = hex::parse(word(line, 1), &mut lent);
@@ -128,7 +133,8 @@ pub fn apply(
     line: &[u8],
 ) -> io::Result<Session>
     requires { Ruled (held session room.old window.old) }
-    ensures { IfOk result (λ next. Ruled (held next room.new window.new)) }
+    ensures ok { IfOk result (λ next. Ruled (held next room.new window.new)) }
+    ensures err { OnErr result ((session : Table) × Ruled (held session room.new window.new)) }
 {
     let count = parse(word(line, 1), u64::MAX);
     if !count.good {
