@@ -1,6 +1,5 @@
 -- `desk::moves::keep` keeps the session's rule: keeping does so for whatever session is held beside the room and the window.
 -- Assumes nothing.
-use borrow.Author.Rules.{rules}
 use Rattle.desk.proofs.moves.keep.Goals as goal
 
 pub keep-requires : goal.keep-requires

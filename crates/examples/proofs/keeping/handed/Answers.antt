@@ -1,6 +1,5 @@
 -- `examples::keeping::handed` keeps the session's rule: keeping does so for whatever session is held beside the room and the window.
 -- Assumes nothing.
-use borrow.Author.Rules.{rules}
 use Rattle.examples.proofs.keeping.handed.Goals as goal
 
 pub keep-said-requires : goal.keep-said-requires
