@@ -1,6 +1,6 @@
 -- A packet that is taken leaves the rule of the opening.
 -- Assumes nothing.
-use mathlib.Core.Path.{◌≡◌, refl, ◌∙◌, sym}
+use mathlib.Core.Path.{◌≡◌, refl, ◌∙◌}
 use mathlib.Core.List.{List}
 use Prim.Native.Nat.{ℕ}
 use Rattle.merge.specs.State.{opened, take_one}

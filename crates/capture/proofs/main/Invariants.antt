@@ -5,7 +5,6 @@ use Prim.Native.Nat.{◌≤◌}
 use lib.ListN.{length}
 use Rattle.session.specs.Meaning.{held}
 use Rattle.capture.specs.Replays.{Strictly}
-use borrow.Author.Rules.{rules}
 use Rattle.capture.proofs.main.Given as goal
 
 abbrev pub invariant-loop-turns : goal.invariant-loop-turns

@@ -2,7 +2,6 @@
 -- Assumes nothing.
 use Rattle.session.proofs.Answers.{sized}
 use Rattle.capture.proofs.Strict.{opened_strictly}
-use borrow.Author.Rules.{rules}
 use Rattle.capture.proofs.opened.Goals as goal
 
 pub open_strict-requires : goal.open_strict-requires

@@ -1,10 +1,5 @@
 -- `capture::replay` keeps the session's rule and the strict one of its opening, stays within the bytes, and ends: each record has its head.
 -- Assumes nothing.
-use mathlib.Core.Path.{◌≡◌}
-use Prim.Native.Nat.{◌≤◌, ◌-◌}
-use lib.ListN.{length}
-use Rattle.session.specs.Meaning.{held}
-use Rattle.capture.specs.Replays.{Strictly}
 use Rattle.capture.proofs.Strict.{taken_strictly}
 use Rattle.capture.proofs.Errors.{on_any_err}
 use borrow.Author.Rules.{rules}

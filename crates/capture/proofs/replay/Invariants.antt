@@ -5,8 +5,6 @@ use Prim.Native.Nat.{◌≤◌, ◌-◌}
 use lib.ListN.{length}
 use Rattle.session.specs.Meaning.{held}
 use Rattle.capture.specs.Replays.{Strictly}
-use Rattle.capture.proofs.Strict.{taken_strictly}
-use borrow.Author.Rules.{rules}
 use Rattle.capture.proofs.replay.Given as goal
 
 abbrev pub invariant-loop-size : goal.invariant-loop-size

@@ -1,7 +1,6 @@
 -- `records::number_of` meets its contract.
 -- Assumes nothing.
 use Rattle.records.proofs.Heads.{opens_at_none, opens_at}
-use borrow.Author.Rules.{rules}
 use Rattle.records.proofs.number_of.Goals as goal
 
 pub returns-then-packet-lt12 : goal.returns-then-packet-lt12

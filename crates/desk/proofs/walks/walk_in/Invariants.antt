@@ -1,7 +1,6 @@
 -- `desk::walks::walk_in` is safe and ends: a packet has at most 255 messages.
 -- Assumes nothing.
 use Prim.Native.Nat.{◌≤◌, ◌-◌}
-use borrow.Author.Rules.{rules}
 use Rattle.desk.proofs.walks.walk_in.Given as goal
 
 abbrev pub invariant-loop-k : goal.invariant-loop-k

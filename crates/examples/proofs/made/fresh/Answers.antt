@@ -1,7 +1,6 @@
 -- `examples::made::fresh` keeps the session's rule: what is lent has its size, whichever session it was lent to.
 -- Assumes nothing.
 use Rattle.session.proofs.Answers.{sized}
-use borrow.Author.Rules.{rules}
 use Rattle.examples.proofs.made.fresh.Goals as goal
 
 pub open-requires : goal.open-requires

@@ -3,7 +3,6 @@
 use Prim.Native.Nat.{◌-◌}
 use lib.ListN.{length}
 use Rattle.session.specs.Meaning.{held, Ruled}
-use borrow.Author.Rules.{rules}
 use Rattle.examples.proofs.sessions.lines.Given as goal
 
 abbrev pub invariant-loop-from : goal.invariant-loop-from

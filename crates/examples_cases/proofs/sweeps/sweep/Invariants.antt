@@ -1,6 +1,5 @@
 -- `cases::sweeps::sweep` is safe: the loop stays within 256.
 -- Assumes nothing.
-use borrow.Author.Rules.{rules}
 use Prim.Native.Nat.{◌≤◌, ◌-◌}
 use Rattle.examples_cases.proofs.sweeps.sweep.Given as goal
 

@@ -2,7 +2,6 @@
 -- Assumes nothing.
 use Prim.Native.Nat.{◌-◌}
 use lib.ListN.{length}
-use borrow.Author.Rules.{rules}
 use Rattle.examples_cases.proofs.tables.run.Given as goal
 
 abbrev pub invariant-loop-from : goal.invariant-loop-from

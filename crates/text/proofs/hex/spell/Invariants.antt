@@ -1,12 +1,10 @@
 -- `text::hex::spell` meets its contract: a turn spells one byte more.
 -- Assumes nothing.
-use mathlib.Core.Path.{◌≡◌, ◌∙◌}
+use mathlib.Core.Path.{◌≡◌}
 use Prim.Native.Nat.{◌≤◌, ◌-◌}
 use lib.ListN.{length, take}
 use Rattle.wire.specs.Number.{splice}
 use Rattle.text.specs.Hex.{spelt_of}
-use Rattle.text.proofs.Spelling.{spelt_none, spelt_step, spelt_all}
-use borrow.Author.Rules.{rules}
 use Rattle.text.proofs.hex.spell.Given as goal
 
 abbrev pub invariant-loop-k : goal.invariant-loop-k
