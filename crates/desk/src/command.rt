@@ -46,7 +46,7 @@ pub fn command_of(line: &[u8]) -> Command
 pub fn is_name(word: &[u8], name: &[u8]) -> bool
     ensures { result ≡ is_name word.now name.now }
 {
-    word == name
+    check::same(word, name)
 }
 
 fn named(word: &[u8], name: &[u8], command: Command) -> Command

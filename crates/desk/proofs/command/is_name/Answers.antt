@@ -1,8 +1,7 @@
--- `desk::command::is_name` meets its contract: a comparison of slices goes byte by byte.
+-- `desk::command::is_name` meets its contract.
 -- Assumes nothing.
-use Rattle.std.proofs.Common.{◌∙◌}
 use Rattle.desk.proofs.Commands.{name_is}
 use Rattle.desk.proofs.command.is_name.Goals as goal
 
 pub returns : goal.returns
-returns c = c.eq.ensures ∙ name_is _ _
+returns c = name_is _ _ _ c.same.ensures.0 c.same.ensures.1
