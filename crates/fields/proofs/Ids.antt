@@ -2,8 +2,8 @@
 use Rattle.std.proofs.Common.{◌≡◌, ℕ, zero, suc, ◌+◌, ◌*◌, ◌^◌, ◌<◌, ◌≤◌, Bool, true, false, cond, ◌≢◌, List, get_or, take, sym, refl, ap, ◌∙◌, ap₂, le_refl, mul_comm, pow-suc, arith, lit<, get_or-take, ne_eqb}
 use native.Mathlib.Nat.{le_of_suc-le}
 use lib.Arith.{digits_lt}
-use Rattle.fields.specs.declared.id.IdValue.{IdValue}
-use Rattle.fields.specs.declared.id.IdValue.TheVariants.{Value, Refused}
+use Rattle.refusals.specs.declared.Refusal.{Refusal}
+use Rattle.refusals.specs.declared.Refusal.TheVariants.{BadQuestion}
 use Rattle.fields.specs.Tests.{first_all}
 use Rattle.fields.specs.Id.{is_digit, digit_of, good_id, value_of, no_value, number_of, is_value, id_answer}
 use Rattle.fields.proofs.Tests.{all-before, all_last, all_take}
@@ -28,19 +28,19 @@ value_take id (suc k) n h =
 
 -- ---- the answer
 
-pub answer_good : (id : List ℕ) → good_id id ≡ true → id_answer id ≡ Value (value_of 12 id)
+pub answer_good : (id : List ℕ) → good_id id ≡ true → id_answer id ≡ Ok (value_of 12 id)
 unfolding id_answer
-answer_good id good = ap (λ (b : Bool). cond b (Value (value_of 12 id)) (Refused 12)) good
+answer_good id good = ap (λ (b : Bool). cond b (Ok (value_of 12 id)) (Err BadQuestion)) good
 
-pub answer_bad : (id : List ℕ) → good_id id ≡ false → id_answer id ≡ Refused 12
+pub answer_bad : (id : List ℕ) → good_id id ≡ false → id_answer id ≡ Err BadQuestion
 unfolding id_answer
-answer_bad id bad = ap (λ (b : Bool). cond b (Value (value_of 12 id)) (Refused 12)) bad
+answer_bad id bad = ap (λ (b : Bool). cond b (Ok (value_of 12 id)) (Err BadQuestion)) bad
 
 -- the last two characters do not count: ids with the same first twelve have the same answer
 answer_take : (id : List ℕ) → id_answer (take 12 id) ≡ id_answer id
 unfolding id_answer good_id
 answer_take id =
-    ap₂ (λ (b : Bool) (v : ℕ). cond b (Value v) (Refused 12)) (all_take is_digit id 12 12 (le_refl 12)) (value_take id 12 12 (le_refl 12))
+    ap₂ (λ (b : Bool) (v : ℕ). cond b (Ok v) (Err BadQuestion)) (all_take is_digit id 12 12 (le_refl 12)) (value_take id 12 12 (le_refl 12))
 
 pub first_twelve : (a b : List ℕ) → take 12 a ≡ take 12 b → id_answer a ≡ id_answer b
 first_twelve a b same = sym (answer_take a) ∙ ap id_answer same ∙ answer_take b
@@ -67,7 +67,7 @@ pub number_bad : (id : List ℕ) → good_id id ≡ false → no_value ≡ numbe
 unfolding number_of
 number_bad id bad = rw bad
 
-pub answer_none : (id : List ℕ) {n : ℕ} → n ≡ number_of id → n ≡ no_value → Refused 12 ≡ id_answer id
+pub answer_none : (id : List ℕ) {n : ℕ} → n ≡ number_of id → n ≡ no_value → Err BadQuestion ≡ id_answer id
 unfolding number_of good_id
 answer_none id is none = sym (answer_bad id (read_none 12 id is none))
 
@@ -88,15 +88,15 @@ unfolding number_of
 value_good id is = ap is_value is ∙ value_cases id (good_id id) refl
 
 -- whether an answer is a value
-abbrev pub accepted : IdValue → Bool
-accepted (Value v) = true
+abbrev pub accepted : Result ℕ Refusal → Bool
+accepted (Ok v) = true
 accepted (Refused n) = false
 
-accepted_cond : (b : Bool) (v n : ℕ) → accepted (cond b (Value v) (Refused n)) ≡ b
+accepted_cond : (b : Bool) (v n : ℕ) → accepted (cond b (Ok v) (Refused n)) ≡ b
 accepted_cond true v n = refl
 accepted_cond false v n = refl
 
 -- the answer is a value exactly where the id is good
-pub accepted_good : (id : List ℕ) {answer case : IdValue} → answer ≡ id_answer id → answer ≡ case → accepted case ≡ good_id id
+pub accepted_good : (id : List ℕ) {answer case : Result ℕ Refusal} → answer ≡ id_answer id → answer ≡ case → accepted case ≡ good_id id
 unfolding id_answer
 accepted_good id is found = ap accepted (sym found ∙ is) ∙ accepted_cond (good_id id) (value_of 12 id) 12

@@ -1,8 +1,8 @@
 -- An order id: its rule and its value.
-use Rattle.std.specs.Prelude.{ℕ, zero, suc, ◌+◌, ◌-◌, ◌*◌, ◌^◌, Bool, cond, not, ◌||◌, List, ◌==◌, slice_index}
+use Rattle.std.specs.Prelude.{ℕ, zero, suc, ◌+◌, ◌-◌, ◌*◌, ◌^◌, Bool, cond, not, ◌||◌, List, ◌==◌, slice_index, Result, Ok, Err}
 use Rattle.fields.specs.Tests.{between, first_all}
-use Rattle.fields.specs.declared.id.IdValue.{IdValue}
-use Rattle.fields.specs.declared.id.IdValue.TheVariants.{Value, Refused}
+use Rattle.refusals.specs.declared.Refusal.{Refusal}
+use Rattle.refusals.specs.declared.Refusal.TheVariants.{BadQuestion}
 
 -- the character is 0-9
 abbrev pub is_numeral : ℕ → Bool
@@ -42,5 +42,5 @@ abbrev pub is_value : ℕ → Bool
 is_value number = not (number == no_value)
 
 -- what asking for an id's value answers
-unfoldable pub id_answer : List ℕ → IdValue
-id_answer id = cond (good_id id) (Value (value_of 12 id)) (Refused 12)
+unfoldable pub id_answer : List ℕ → Result ℕ Refusal
+id_answer id = cond (good_id id) (Ok (value_of 12 id)) (Err BadQuestion)

@@ -3,29 +3,21 @@ ghost use Rattle.std.specs.Prelude.{◌≡◌};
 ghost use Rattle.fields.specs.Id.{good_id, id_answer};
 
 use crate::parts::{NONE, number};
+use refusals::Refusal;
 
 // The value, or 12 where the id breaks its rule.
-#[derive(Clone, Copy)]
-pub enum IdValue {
-    Value(u64),
-    Refused(u8),
-}
-
-pub fn value(id: [u8; 14]) -> IdValue
+pub fn value(id: [u8; 14]) -> Result<u64, Refusal>
     ensures { result ≡ id_answer id }
 {
     let number = number(id);
     if number == NONE {
-        return IdValue::Refused(12);
+        return Err(Refusal::BadQuestion);
     }
-    IdValue::Value(number)
+    Ok(number)
 }
 
 pub fn good_id(id: [u8; 14]) -> bool
     ensures { result ≡ good_id id }
 {
-    match value(id) {
-        IdValue::Value(_) => true,
-        IdValue::Refused(_) => false,
-    }
+    value(id).is_ok()
 }
