@@ -1,12 +1,12 @@
 -- Document 01, "Packet header, 12 bytes", and the tests 1 to 6 of "Taking a packet".
 -- Assumes nothing.
-use Rattle.std.specs.Prelude.{Bool, cond, not, ◌&&◌, List, [], ◌∷◌, ℕ, ◌/◌, ◌%◌, eqb, ltb, length}
+use Rattle.std.specs.Prelude.{Bool, cond, not, ◌&&◌, List, [], ◌∷◌, ℕ, ◌/◌, ◌%◌, eqb, ltb, length, Result, Ok, Err}
 use Rattle.wire.specs.Choice.{first_of}
 use Rattle.wire.specs.Layout.{Field, number, Value, decode, number_in}
 use Rattle.packet.specs.declared.header.Header.{Header}
-use Rattle.packet.specs.declared.header.HeaderAnswer.{HeaderAnswer}
-use Rattle.packet.specs.declared.header.Judged.{Judged}
-use Rattle.packet.specs.declared.header.HeaderAnswer.TheVariants.{Fields, Refused}
+use Rattle.packet.specs.declared.header.Rejection.{Rejection}
+use Rattle.refusals.specs.Refusals.{answered, number_of}
+use Rattle.refusals.specs.declared.Refusal.{Refusal}
 
 -- PacketSize, SeqNum, PacketFlag, Messages, PacketMilli
 abbrev pub layout : List Field
@@ -35,9 +35,18 @@ Test = Bool × (ℕ × ℕ)
 abbrev pub decided : List Test → ℕ × ℕ
 decided tests = first_of tests (0, 0)
 
--- the same as an answer
+-- the same with names
+pub record Judged : Type 0 where
+  pub test : ℕ
+  pub offset : ℕ
+
 abbrev pub judged : ℕ × ℕ → Judged
 judged row = record { test = row.0; offset = row.1 }
+
+-- what an answer says of the test that decides
+abbrev pub told : Result (Unit {0}) Rejection → Judged
+told (Ok nothing) = judged (0, 0)
+told (Err rejection) = judged (number_of rejection.refusal, rejection.offset)
 
 -- 4 a reserved bit; 5 a heartbeat of another size, or with Messages; 6 no heartbeat and no Messages
 unfoldable pub flag_tests : ℕ → ℕ → ℕ → List Test
@@ -60,10 +69,6 @@ header_tests s =
     ∷ (not (eqb (header_in s).size (length s)), (3, 0))
     ∷ flags_of (header_in s)
 
--- the answer by the deciding test's number: 0 gives the fields
-abbrev pub answered : ℕ → Header → HeaderAnswer
-answered test header = cond (eqb test 0) (Fields header) (Refused test)
-
 -- "Reading a header from lent bytes gives its fields or the first of 1 to 6 that applies"
-unfoldable pub header_of : List ℕ → HeaderAnswer
+unfoldable pub header_of : List ℕ → Result Header Refusal
 header_of s = answered (decided (header_tests s)).0 (header_in s)

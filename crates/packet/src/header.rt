@@ -1,6 +1,8 @@
 // The packet header.
-ghost use Rattle.std.specs.Prelude.{◌≡◌, ◌≤◌, length};
-ghost use Rattle.packet.specs.Header.{decided, flag_tests, header_in, header_of, header_tests, judged};
+ghost use Rattle.std.specs.Prelude.{◌≡◌, ◌≤◌, Err, length};
+ghost use Rattle.packet.specs.Header.{decided, flag_tests, header_in, header_of, header_tests, judged, told};
+
+use refusals::Refusal;
 
 // A packet's header, which is the shortest packet, and the longest packet, in bytes.
 pub const HEADER: usize = 12;
@@ -21,24 +23,26 @@ pub struct Header {
     pub milli: u32,
 }
 
-#[derive(Clone, Copy)]
-pub enum HeaderAnswer {
-    Fields(Header),
-    Refused(u8),
-}
-
-// Which test decides, 0 where none applies, and the byte offset that it rests on.
-#[derive(Clone, Copy)]
-pub struct Judged {
-    pub test: u8,
+// The refusal of the test that decides, and the byte offset that it rests on.
+#[derive(Clone, Copy, Debug, PartialEq, Eq)]
+pub struct Rejection {
+    pub refusal: Refusal,
     pub offset: usize,
 }
 
+impl From<Rejection> for Refusal {
+    ghost from_gives = { λ rejection refusal. refusal ≡ rejection.refusal };
+
+    fn from(rejection: Rejection) -> Refusal {
+        rejection.refusal
+    }
+}
+
 // A part.
-pub fn verdict(test: u8, offset: usize) -> Judged
-    ensures { result ≡ judged (test, offset) }
+pub fn rejected(refusal: Refusal, offset: usize) -> Result<(), Rejection>
+    ensures { result ≡ Err (record { refusal = refusal; offset = offset }) }
 {
-    Judged { test, offset }
+    Err(Rejection { refusal, offset })
 }
 
 // A part: the fields where 12 bytes are there.
@@ -61,52 +65,49 @@ pub fn fields(s: &[u8]) -> Header
 }
 
 // A part: the first of 4, 5 and 6 that applies to the fields.
-pub fn flagged(size: u16, flag: u8, messages: u8) -> Judged
-    ensures { result ≡ judged (decided (flag_tests size flag messages)) }
+pub fn flagged(size: u16, flag: u8, messages: u8) -> Result<(), Rejection>
+    ensures { told result ≡ judged (decided (flag_tests size flag messages)) }
 {
     if flag / 2 != 0 {
-        return verdict(4, 6);
+        return rejected(Refusal::ReservedFlag, 6);
     }
     if flag % 2 == 1 {
         if size != BARE {
-            return verdict(5, 0);
+            return rejected(Refusal::BadHeartbeat, 0);
         }
         if messages != 0 {
-            return verdict(5, 7);
+            return rejected(Refusal::BadHeartbeat, 7);
         }
-        return verdict(0, 0);
+        return Ok(());
     }
     if messages == 0 {
-        return verdict(6, 7);
+        return rejected(Refusal::NoMessages, 7);
     }
-    verdict(0, 0)
+    Ok(())
 }
 
 // A part: the first of 1 to 6 that applies.
-pub fn tested(s: &[u8]) -> Judged
-    ensures { result ≡ judged (decided (header_tests s.now)) }
+pub fn tested(s: &[u8]) -> Result<(), Rejection>
+    ensures { told result ≡ judged (decided (header_tests s.now)) }
 {
     let n = s.len();
     if n < HEADER {
-        return verdict(1, 0);
+        return rejected(Refusal::TooShort, 0);
     }
     if LONGEST < n {
-        return verdict(2, 0);
+        return rejected(Refusal::TooLong, 0);
     }
     let header = fields(s);
     if header.size as usize != n {
-        return verdict(3, 0);
+        return rejected(Refusal::WrongSize, 0);
     }
     flagged(header.size, header.flag, header.messages)
 }
 
 // The call: every byte string has its answer. The lent bytes are the whole packet.
-pub fn read_header(s: &[u8]) -> HeaderAnswer
+pub fn read_header(s: &[u8]) -> Result<Header, Refusal>
     ensures { result ≡ header_of s.now }
 {
-    let answer = tested(s);
-    if answer.test != 0 {
-        return HeaderAnswer::Refused(answer.test);
-    }
-    HeaderAnswer::Fields(fields(s))
+    tested(s)?;
+    Ok(fields(s))
 }

@@ -5,27 +5,27 @@ ghost use Rattle.packet.specs.Header.{layout};
 ghost use Rattle.packet.specs.Writing.{answer_of, buffer_after, row_of};
 
 use crate::header::{BARE, FULL, HEADER, Header, flagged};
-use wire::Written;
+use refusals::Refusal;
 
 // What writing answers for n bytes of buffer.
-fn answer(header: Header, n: usize) -> Written
+fn answer(header: Header, n: usize) -> Result<usize, Refusal>
     ensures { result ≡ answer_of header n }
 {
     let size = header.size;
     if size < BARE {
-        return Written::Refused(14);
+        return Err(Refusal::RuleBroken);
     }
     if FULL < size {
-        return Written::Refused(14);
+        return Err(Refusal::RuleBroken);
     }
     let judged = flagged(size, header.flag, header.messages);
-    if judged.test != 0 {
-        return Written::Refused(14);
+    if judged.is_err() {
+        return Err(Refusal::RuleBroken);
     }
     if n < HEADER {
-        return Written::Refused(11);
+        return Err(Refusal::NoRoom);
     }
-    Written::Count(HEADER)
+    Ok(HEADER)
 }
 
 fn put(header: Header, buf: &mut [u8])
@@ -40,14 +40,11 @@ fn put(header: Header, buf: &mut [u8])
 }
 
 // The call: every header and every buffer have their answer.
-pub fn write_header(header: Header, buf: &mut [u8]) -> Written
+pub fn write_header(header: Header, buf: &mut [u8]) -> Result<usize, Refusal>
     ensures answer { result ≡ answer_of header (length buf.old) }
     ensures buffer { buf.new ≡ buffer_after header buf.old }
 {
-    let said = answer(header, buf.len());
-    let Written::Count(_) = said else {
-        return said;
-    };
+    let count = answer(header, buf.len())?;
     put(header, buf);
-    said
+    Ok(count)
 }

@@ -8,7 +8,6 @@
 
 pub mod header;
 mod heading;
-pub mod walk;
 
-pub use header::{HEADER, Header, HeaderAnswer, Judged, LONGEST, read_header};
+pub use header::{HEADER, Header, LONGEST, Rejection, read_header};
 pub use heading::write_header;

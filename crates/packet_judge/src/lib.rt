@@ -3,41 +3,38 @@
 #![tactic(auto)]
 
 ghost use Rattle.std.specs.Prelude.{◌≡◌};
-ghost use Rattle.packet.specs.Header.{decided, judged};
+ghost use Rattle.packet.specs.Header.{decided, judged, told};
 ghost use Rattle.packet.specs.Judging.{body_tests, judge_of};
 
-use packet::walk::Walked;
-use packet::{Judged, header};
+use packet::{Rejection, header};
+use refusals::Refusal;
 
 pub mod walk;
 
 // A part: the first of 7 and 8 that applies to a packet that is no heartbeat.
-fn body(walked: Walked, seq: u32, messages: u8) -> Judged
-    ensures { result ≡ judged (decided (body_tests walked seq messages)) }
+fn body(fault: Option<usize>, seq: u32, messages: u8) -> Result<(), Rejection>
+    ensures { told result ≡ judged (decided (body_tests fault seq messages)) }
 {
-    match walked {
-        Walked::Broken(at) => header::verdict(7, at),
-        Walked::Whole => {
+    match fault {
+        Some(at) => header::rejected(Refusal::BadMessage, at),
+        None => {
             if 4294967296 < (seq as u64) + (messages as u64) {
-                return header::verdict(8, 2);
+                return header::rejected(Refusal::PastLastNumber, 2);
             }
-            header::verdict(0, 0)
+            Ok(())
         }
     }
 }
 
-// The call: which of 1 to 8 decides, 0 where none applies, and the byte offset that it rests on.
-pub fn judge(s: &[u8]) -> Judged
-    ensures { result ≡ judge_of s.now }
+// The call: the first of 1 to 8 that applies, and the byte offset that it rests on.
+pub fn judge(s: &[u8]) -> Result<(), Rejection>
+    ensures { told result ≡ judge_of s.now }
 {
-    let answer = header::tested(s);
-    if answer.test != 0 {
-        return answer;
-    }
+    header::tested(s)?;
     let head = header::fields(s);
     if head.flag % 2 == 1 {
-        return answer;
+        return Ok(());
     }
-    let walked = walk::walk(s, head.messages);
-    body(walked, head.seq, head.messages)
+    let fault = walk::walk(s, head.messages);
+    body(fault, head.seq, head.messages)
 }

@@ -1,14 +1,13 @@
 -- Document 01, a packet walked without a session: the tests 1 to 7, and its messages in order.
 -- Assumes nothing.
-use Rattle.std.specs.Prelude.{cond, List, [], ◌∷◌, ◌++◌, ℕ, eqb, get_or}
+use Rattle.std.specs.Prelude.{cond, List, [], ◌∷◌, ◌++◌, ℕ, eqb, get_or, Option}
 use Rattle.packet.specs.Header.{Test, decided, heartbeat, header_in, header_tests}
 use Rattle.packet.specs.Judging.{fault_of, is_broken, unless_heartbeat}
 use Rattle.packet.specs.Walk.{frames_from, walk_from}
-use Rattle.packet.specs.declared.walk.Walked.{Walked}
 
 -- 7 a message at fault, or bytes after the last
-abbrev pub walk_tests : Walked → List Test
-walk_tests walked = (is_broken walked, (7, fault_of walked)) ∷ []
+abbrev pub walk_tests : Option ℕ → List Test
+walk_tests fault = (is_broken fault, (7, fault_of fault)) ∷ []
 
 -- 1 to 7, in order
 unfoldable pub read_tests : List ℕ → List Test

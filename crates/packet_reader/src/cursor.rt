@@ -1,19 +1,21 @@
 // Parts: a cursor in a packet. Each function takes the packet and the cursor, and answers for any cursor.
 ghost use Rattle.std.specs.Prelude.{◌≡◌, ◌+◌, ◌<◌, ◌^◌};
-ghost use Rattle.packet_reader.specs.Cursors.{behind_of, frame_at, framed, lent, part_of, size_at, start_of};
+ghost use Rattle.packet.specs.Walk.{some_size};
+ghost use Rattle.packet_reader.specs.Cursors.{behind_of, frame_at, framed, lent_if, part_if, size_at, start_of};
 
 use crate::judge::judge;
+use refusals::Refusal;
 
-// Where the next message starts, how many are left, and which of 1 to 7 refused the packet, 0 where none did.
-#[derive(Clone, Copy)]
+// Where the next message starts, how many are left, and which of 1 to 7 refused the packet.
+#[derive(Clone, Copy, Debug, PartialEq, Eq)]
 pub struct Cursor {
     pub at: usize,
     pub left: u8,
-    pub refusal: u8,
+    pub refusal: Option<Refusal>,
 }
 
-// A message: where it starts, and how many bytes it has, 0 where there is none.
-#[derive(Clone, Copy)]
+// A message: where it starts, and how many bytes it has.
+#[derive(Clone, Copy, Debug, PartialEq, Eq)]
 pub struct Frame {
     pub start: usize,
     pub size: usize,
@@ -23,49 +25,43 @@ pub struct Frame {
 pub fn start(s: &[u8]) -> Cursor
     ensures { result ≡ start_of s.now }
 {
-    let refusal = judge(s);
-    if refusal != 0 {
-        return Cursor {
+    match judge(s) {
+        Err(refusal) => Cursor {
             at: 0,
             left: 0,
-            refusal,
-        };
-    }
-    let left = wire::u8_at(s, 7);
-    Cursor {
-        at: packet::HEADER,
-        left,
-        refusal: 0,
+            refusal: Some(refusal),
+        },
+        Ok(()) => Cursor {
+            at: packet::HEADER,
+            left: wire::u8_at(s, 7),
+            refusal: None,
+        },
     }
 }
 
-// The size of the message at a cursor, 0 where none is left. The walk looks again at what opening judged: a cursor may be
-// any.
-fn size_at(s: &[u8], cursor: Cursor) -> usize
-    ensures { result ≡ size_at s.now cursor }
+// The size of the message at a cursor. The walk looks again at what opening judged: a cursor may be any.
+fn size_at(s: &[u8], cursor: Cursor) -> Option<usize>
+    ensures { result ≡ some_size (size_at s.now cursor) }
 {
     let at = cursor.at;
     if cursor.left == 0 {
-        return 0;
+        return None;
     }
     if s.len() < at {
-        return 0;
+        return None;
     }
     packet_judge::walk::step(s, at)
 }
 
-// The message at a cursor.
-pub fn frame_at(s: &[u8], cursor: Cursor) -> Frame
+// The message at a cursor, if one is left.
+pub fn frame_at(s: &[u8], cursor: Cursor) -> Option<Frame>
     ensures { result ≡ framed (frame_at s.now cursor) }
 {
-    let size = size_at(s, cursor);
-    if size == 0 {
-        return Frame { start: 0, size: 0 };
-    }
-    Frame {
+    let size = size_at(s, cursor)?;
+    Some(Frame {
         start: cursor.at,
         size,
-    }
+    })
 }
 
 // Where a message ends.
@@ -76,24 +72,23 @@ fn end_of(found: Frame) -> usize
     found.start + found.size
 }
 
-// The message at a cursor as a part of the packet, empty where none is left.
-pub fn part(s: &[u8], cursor: Cursor) -> &[u8]
-    ensures { lent result ≡ part_of s.entry (frame_at s.now cursor) }
+// The message at a cursor as a part of the packet, if one is left.
+pub fn part(s: &[u8], cursor: Cursor) -> Option<&[u8]>
+    ensures { lent_if result ≡ part_if s.entry (frame_at s.now cursor) }
 {
-    let found = frame_at(s, cursor);
+    let found = frame_at(s, cursor)?;
     let start = found.start;
     let end = end_of(found);
-    &s[start..end]
+    Some(&s[start..end])
 }
 
 // The cursor behind that message. Where none is left it stays.
 pub fn behind(s: &[u8], cursor: Cursor) -> Cursor
     ensures { result ≡ behind_of s.now cursor }
 {
-    let found = frame_at(s, cursor);
-    if found.size == 0 {
+    let Some(found) = frame_at(s, cursor) else {
         return cursor;
-    }
+    };
     let at = end_of(found);
     Cursor {
         at,

@@ -1,14 +1,16 @@
 // Judging a packet by 1 to 7.
 ghost use Rattle.std.specs.Prelude.{◌≡◌};
 ghost use Rattle.packet_reader.specs.Reading.{refusal_of};
+ghost use Rattle.refusals.specs.Refusals.{refusal_in};
 
-// The call: the first of 1 to 7 that applies, 0 where none does. 8 is about numbers, which only a session counts.
-pub fn judge(s: &[u8]) -> u8
-    ensures { result ≡ refusal_of s.now }
+use refusals::Refusal;
+
+// The call: the first of 1 to 7 that applies. 8 is about numbers, which only a session counts.
+pub fn judge(s: &[u8]) -> Result<(), Refusal>
+    ensures { refusal_in result ≡ refusal_of s.now }
 {
-    let said = packet_judge::judge(s);
-    if said.test == 8 {
-        return 0;
+    match packet_judge::judge(s) {
+        Err(rejection) if rejection.refusal != Refusal::PastLastNumber => Err(rejection.refusal),
+        _ => Ok(()),
     }
-    said.test
 }

@@ -2,9 +2,11 @@
 ghost use Rattle.std.specs.Prelude.{◌≡◌};
 ghost use Rattle.packet_reader.specs.Cursors.{behind_of, start_of};
 ghost use Rattle.packet_reader.specs.Reading.{refusal_of};
+ghost use Rattle.refusals.specs.Refusals.{refusal_or_none};
 
 use crate::cursor::Cursor;
 use crate::read::{Reader, open, refusal, step};
+use refusals::Refusal;
 
 // The cursor of a reader that is opened.
 pub fn opened(packet: &[u8]) -> Cursor
@@ -14,8 +16,8 @@ pub fn opened(packet: &[u8]) -> Cursor
 }
 
 // Which of 1 to 7 such a reader says.
-pub fn refused(packet: &[u8]) -> u8
-    ensures { result ≡ refusal_of packet.now }
+pub fn refused(packet: &[u8]) -> Option<Refusal>
+    ensures { refusal_or_none result ≡ refusal_of packet.now }
 {
     refusal(open(packet))
 }

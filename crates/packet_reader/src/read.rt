@@ -4,6 +4,7 @@ ghost use Rattle.packet_reader.specs.Steps.{opened, seen, step_of};
 
 use crate::cursor;
 use crate::cursor::Cursor;
+use refusals::Refusal;
 
 // The lent packet and the cursor in it. `open` makes one; a reader made otherwise has its answers too.
 #[derive(Clone, Copy)]
@@ -12,10 +13,10 @@ pub struct Reader<'a> {
     pub cursor: Cursor,
 }
 
-// The message handed out, empty where none is left, and the reader behind it.
+// The message handed out, if one is left, and the reader behind it.
 #[derive(Clone, Copy)]
 pub struct Handed<'a> {
-    pub message: &'a [u8],
+    pub message: Option<&'a [u8]>,
     pub rest: Reader<'a>,
 }
 
@@ -27,14 +28,14 @@ pub fn open<'a>(packet: &'a [u8]) -> Reader<'a>
     Reader { packet, cursor }
 }
 
-// The call: which of 1 to 7 refused the packet, 0 where none did.
-pub fn refusal<'a>(reader: Reader<'a>) -> u8
+// The call: which of 1 to 7 refused the packet.
+pub fn refusal<'a>(reader: Reader<'a>) -> Option<Refusal>
     ensures { result ≡ reader.entry.cursor.refusal }
 {
     reader.cursor.refusal
 }
 
-// The call: the next message, and the reader behind it.
+// The call: the next message, if one is left, and the reader behind it.
 pub fn step<'a>(reader: Reader<'a>) -> Handed<'a>
     ensures { seen result ≡ step_of reader.entry }
 {

@@ -22,23 +22,23 @@ pub fn marked(held: &[u8], at: usize) -> bool
     false
 }
 
-// How many bytes the whole record at a place has, its head counted; 0 where there is none.
-pub fn size_at(held: &[u8], at: usize) -> usize
+// How many bytes the whole record at a place has, its head counted.
+pub fn size_at(held: &[u8], at: usize) -> Option<usize>
     requires { at ≤ length held.now }
     ensures { Sized held.now at result }
 {
     let left = held.len() - at;
     if left < HEAD {
-        return 0;
+        return None;
     }
     if !marked(held, at) {
-        return 0;
+        return None;
     }
     let size = wire::u16_at(held, at + 2) as usize;
     if left - HEAD < size {
-        return 0;
+        return None;
     }
-    HEAD + size
+    Some(HEAD + size)
 }
 
 // A record's head is there, and has no mark: nothing behind it is read.

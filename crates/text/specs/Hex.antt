@@ -1,8 +1,7 @@
 -- Bytes in hex: two digits a byte, in either case; `-` for none.
 -- Assumes nothing.
-use Rattle.std.specs.Prelude.{Bool, true, false, cond, ◌≡◌, List, [], ◌∷◌, ◌++◌, ℕ, ◌+◌, ◌-◌, ◌*◌, ◌/◌, ◌%◌, ◌≤◌, eqb, ltb, length, take}
+use Rattle.std.specs.Prelude.{Bool, true, false, cond, Option, IfSome, is_some, unwrap_or, ◌≡◌, List, [], ◌∷◌, ◌++◌, ℕ, ◌+◌, ◌-◌, ◌*◌, ◌/◌, ◌%◌, ◌<◌, ◌≤◌, eqb, ltb, length, take}
 use Rattle.wire.specs.Choice.{first_of}
-use Rattle.text.specs.declared.hex.Bytes.{Bytes}
 
 -- the value of a digit; 16 of any other character
 unfoldable pub digit_of : ℕ → ℕ
@@ -31,16 +30,13 @@ is_dash (a ∷ b ∷ rest) = false
 unfoldable pub is_bytes : List ℕ → Bool
 is_bytes word = cond (is_dash word) true (cond (eqb (length word) 0) false (is_pairs word))
 
-abbrev pub no_bytes : Bytes
-no_bytes = record { good = false; count = 0 }
+pub record Digit (c : ℕ) (r : Option ℕ) : Type 0 where
+  pub is : unwrap_or r 16 ≡ digit_of c
+  pub most : IfSome r (λ digit. digit < 16)
 
-pub record Digit (c r : ℕ) : Type 0 where
-  pub is : r ≡ digit_of c
-  pub most : r ≤ 16
-
-pub record Pair (a b r : ℕ) : Type 0 where
-  pub is : r ≡ pair_of a b
-  pub most : r ≤ 256
+pub record Pair (a b : ℕ) (r : Option ℕ) : Type 0 where
+  pub is : unwrap_or r 256 ≡ pair_of a b
+  pub most : IfSome r (λ byte. byte < 256)
 
 -- digits read into a buffer
 pub record Fills (word : List ℕ) (count : ℕ) (r : Bool) (new : List ℕ) : Type 0 where
@@ -48,10 +44,10 @@ pub record Fills (word : List ℕ) (count : ℕ) (r : Bool) (new : List ℕ) : T
   pub bytes : r ≡ true → take count new ≡ bytes_of word
 
 -- a word read into a buffer that may be too short for it
-pub record Reads (word : List ℕ) (room : ℕ) (r : Bytes) (new : List ℕ) : Type 0 where
-  pub within : r.count ≤ length new
-  pub good : length word ≤ room * 2 → r.good ≡ is_bytes word
-  pub bytes : r.good ≡ true → take r.count new ≡ bytes_of word
+pub record Reads (word : List ℕ) (room : ℕ) (r : Option ℕ) (new : List ℕ) : Type 0 where
+  pub within : IfSome r (λ count. count ≤ length new)
+  pub good : length word ≤ room * 2 → is_some r ≡ is_bytes word
+  pub bytes : IfSome r (λ count. take count new ≡ bytes_of word)
 
 -- bytes spelt in lower case
 unfoldable pub glyph_of : ℕ → ℕ

@@ -1,56 +1,28 @@
 // Parts: bytes in hex, two digits a byte, `-` for none.
 ghost use Rattle.std.specs.Prelude.{◌≡◌, ◌+◌, ◌*◌, ◌≤◌, length};
 ghost use Rattle.wire.specs.Number.{splice};
-ghost use Rattle.text.specs.Hex.{glyph_of, hex_of, is_dash, no_bytes, spelt_of, two_of, Digit, Fills, Pair, Reads};
+ghost use Rattle.text.specs.Hex.{glyph_of, hex_of, is_dash, spelt_of, two_of, Digit, Fills, Pair, Reads};
 ghost use Rattle.text.specs.Output.{Put};
 
 use crate::output;
 
-// How many bytes a word stood for, 0 where it stands for none.
-#[derive(Clone, Copy)]
-pub struct Bytes {
-    pub good: bool,
-    pub count: usize,
-}
-
-// A digit's value, in either case; 16 where the character is none.
-fn digit_of(c: u8) -> u8
+// A digit's value, in either case.
+fn digit_of(c: u8) -> Option<u8>
     ensures { Digit c result }
 {
-    if c < b'0' {
-        return 16;
+    match c {
+        b'0'..=b'9' => Some(c - b'0'),
+        b'A'..=b'F' => Some(c - b'A' + 10),
+        b'a'..=b'f' => Some(c - b'a' + 10),
+        _ => None,
     }
-    if c < 58 {
-        return c - b'0';
-    }
-    if c < b'A' {
-        return 16;
-    }
-    if c < 71 {
-        return c - 55;
-    }
-    if c < b'a' {
-        return 16;
-    }
-    if c < 103 {
-        return c - 87;
-    }
-    16
 }
 
-// The byte of two digits; 256 where they are none.
-fn pair(high: u8, low: u8) -> u16
+// The byte of two digits.
+fn pair(high: u8, low: u8) -> Option<u8>
     ensures { Pair high low result }
 {
-    let first = digit_of(high);
-    let second = digit_of(low);
-    if first == 16 {
-        return 256;
-    }
-    if second == 16 {
-        return 256;
-    }
-    (first as u16) * 16 + (second as u16)
+    Some(digit_of(high)? * 16 + digit_of(low)?)
 }
 
 fn fill(word: &[u8], out: &mut [u8], count: usize) -> bool
@@ -59,11 +31,10 @@ fn fill(word: &[u8], out: &mut [u8], count: usize) -> bool
 {
     let mut k = 0;
     while k < count {
-        let byte = pair(word[k * 2], word[k * 2 + 1]);
-        if 255 < byte {
+        let Some(byte) = pair(word[k * 2], word[k * 2 + 1]) else {
             return false;
-        }
-        out[k] = byte as u8;
+        };
+        out[k] = byte;
         k += 1;
     }
     true
@@ -78,39 +49,27 @@ fn is_dash(word: &[u8]) -> bool
     false
 }
 
-fn none() -> Bytes
-    ensures { result ≡ no_bytes }
-{
-    Bytes {
-        good: false,
-        count: 0,
-    }
-}
-
-// The bytes of a word, put at the front of a buffer; none where the buffer is too short.
-pub fn parse(word: &[u8], out: &mut [u8]) -> Bytes
+// The bytes of a word, put at the front of a buffer, and how many; none where the buffer is too short.
+pub fn parse(word: &[u8], out: &mut [u8]) -> Option<usize>
     ensures { Reads word.now (length out.old) result out.new }
 {
     if is_dash(word) {
-        return Bytes {
-            good: true,
-            count: 0,
-        };
+        return Some(0);
     }
     let count = word.len() / 2;
     if count == 0 {
-        return none();
+        return None;
     }
     if count * 2 != word.len() {
-        return none();
+        return None;
     }
     if out.len() < count {
-        return none();
+        return None;
     }
     if fill(word, out, count) {
-        return Bytes { good: true, count };
+        return Some(count);
     }
-    none()
+    None
 }
 
 fn glyph(digit: u8) -> u8

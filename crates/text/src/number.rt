@@ -1,63 +1,39 @@
 // Parts: a number in decimal.
 ghost use Rattle.std.specs.Prelude.{◌≡◌};
-ghost use Rattle.text.specs.Numbers.{Digit, Number, none as noNumber};
+ghost use Rattle.text.specs.Numbers.{Digit, Number};
 ghost use Rattle.text.specs.Output.{PutNumber};
 
 use crate::output;
 
-// A number that a word stands for, 0 where it stands for none.
-#[derive(Clone, Copy)]
-pub struct Parsed {
-    pub good: bool,
-    pub value: u64,
-}
-
-fn none() -> Parsed
-    ensures { result ≡ noNumber }
-{
-    Parsed {
-        good: false,
-        value: 0,
-    }
-}
-
-// Digits alone, one or more, and at most the limit.
-pub fn parse(word: &[u8], limit: u64) -> Parsed
+// The number that a word stands for: digits alone, one or more, and at most the limit.
+pub fn parse(word: &[u8], limit: u64) -> Option<u64>
     ensures { Number limit word.now result }
 {
-    if word.len() == 0 {
-        return none();
+    if word.is_empty() {
+        return None;
     }
     let mut value: u64 = 0;
-    let mut k = 0;
-    while k < word.len() {
-        let digit = digit_of(word[k]);
-        if digit == 10 {
-            return none();
-        }
+    for c in word {
+        let digit = digit_of(*c)?;
         if limit < digit {
-            return none();
+            return None;
         }
         if (limit - digit) / 10 < value {
-            return none();
+            return None;
         }
         value = value * 10 + digit;
-        k += 1;
     }
-    Parsed { good: true, value }
+    Some(value)
 }
 
-// A digit's value; 10 where the character is none.
-fn digit_of(c: u8) -> u64
+// A digit's value.
+fn digit_of(c: u8) -> Option<u64>
     ensures { Digit c result }
 {
-    if c < b'0' {
-        return 10;
+    match c {
+        b'0'..=b'9' => Some((c - b'0') as u64),
+        _ => None,
     }
-    if b'9' < c {
-        return 10;
-    }
-    (c - b'0') as u64
 }
 
 pub fn put(out: &mut [u8], at: usize, n: u64) -> usize

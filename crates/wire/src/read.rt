@@ -51,22 +51,12 @@ pub fn u64_at(s: &[u8], at: usize) -> u64
         + wide(s[at]) * 72057594037927936
 }
 
-pub fn text4_at(s: &[u8], at: usize) -> [u8; 4]
-    requires { at + 4 ≤ length s.now }
-    ensures { result ≡ part s.now at 4 }
+// N bytes as they stand there.
+pub fn text_at<const N: usize>(s: &[u8], at: usize) -> [u8; N]
+    requires { at + N ≤ length s.now }
+    ensures { result ≡ part s.now at N }
 {
-    [s[at], s[at + 1], s[at + 2], s[at + 3]]
-}
-
-pub fn text14_at(s: &[u8], at: usize) -> [u8; 14]
-    requires { at + 14 ≤ length s.now }
-    ensures { result ≡ part s.now at 14 }
-{
-    let mut text = [0u8; 14];
-    let mut k: usize = 0;
-    while k < 14 {
-        text[k] = s[at + k];
-        k += 1;
-    }
+    let mut text = [0u8; N];
+    text.copy_from_slice(&s[at..at + N]);
     text
 }

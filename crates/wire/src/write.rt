@@ -2,13 +2,6 @@
 ghost use Rattle.std.specs.Prelude.{◌≡◌, ◌+◌, ◌≤◌, length};
 ghost use Rattle.wire.specs.Number.{be, splice};
 
-// What a call that writes answers: how many bytes it put, or the refusal.
-#[derive(Clone, Copy)]
-pub enum Written {
-    Count(usize),
-    Refused(u8),
-}
-
 pub fn put_u8(buf: &mut [u8], at: usize, n: u8)
     requires { at + 1 ≤ length buf.old }
     ensures { buf.new ≡ splice buf.old at (be 1 n) }
@@ -46,9 +39,5 @@ pub fn put_text(buf: &mut [u8], at: usize, text: &[u8])
     requires { at + length text.now ≤ length buf.old }
     ensures { buf.new ≡ splice buf.old at text.now }
 {
-    let mut k = 0;
-    while k < text.len() {
-        buf[at + k] = text[k];
-        k += 1;
-    }
+    buf[at..at + text.len()].copy_from_slice(text);
 }
