@@ -7,6 +7,8 @@ use Prim.Native.Nat.{ℕ, ◌-◌, ◌≤◌, ◌<◌}
 use native.Mathlib.Omega.{arith}
 use borrow.Author.Tests.{eqb-true, eqb-false, leb-false, not-false}
 use lib.Dec.{eqb, leb, ltb}
+use Rattle.book.specs.declared.deciding.Reason.TheVariants as why
+use Rattle.book.specs.declared.deciding.Reason.{Reason}
 use Rattle.wire.specs.Layout.{number_in}
 use Rattle.fields.proofs.Tests.{and_right}
 use Rattle.message.specs.Row.{type_of, row_of}
@@ -63,7 +65,7 @@ Change seen m (Renew place) = Held seen m place
 Change seen m Enter = Entered seen m
 Change seen m (Record code) = Coded m code
 Change seen m Unchanged = Unit {0}
-Change seen m (Fault reason) = reason ≡ 1 → is_strict seen.rule ≡ true
+Change seen m (Fault reason) = reason ≡ why.Unlisted → is_strict seen.rule ≡ true
 Change seen m CountApart = (is_listed (type_of m) ≡ false) × (is_strict seen.rule ≡ false)
 
 -- a change that is no fault comes of a message that breaks no rule
@@ -125,7 +127,7 @@ module _ (seen : Seen) (m : Message) where
         λ f. pick Told (is_listed type) (λ e. (good, tt)) (λ e. (good, (e, right (not (is_listed type)) (is_strict seen.rule) (ap not e) one)))
 
   -- by the faults, one after the other: what holds of a fault, the first under the strict rule only, and of the change where no fault holds
-  pub by_faults : (P : Effect → Type 0) → ((reason : ℕ) → (reason ≡ 1 → is_strict seen.rule ≡ true) → P (Fault reason))
+  pub by_faults : (P : Effect → Type 0) → ((reason : Reason) → (reason ≡ why.Unlisted → is_strict seen.rule ≡ true) → P (Fault reason))
       → ((not (is_listed type) && is_strict seen.rule) ≡ false
       → good_message m ≡ true
       → (eqb type 21 && is_at seen.order) ≡ false
