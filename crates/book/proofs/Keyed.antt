@@ -174,7 +174,7 @@ module _ {A : Type 0} (d : A) (test : A → Bool) where
 
   -- ---- a look-up from place to place
 
-  -- what it says of the places from k on: the first that passes, or that None does
+  -- what it says of the places from k on: the first that passes, or that none does
   abbrev pub Says : ℕ → List A → Option ℕ → Type 0
   Says k xs (Some p) = (k ≤ p) × (p - k < length xs) × (test (get_or xs (p - k) d) ≡ true) × ((i : ℕ) → i < p - k → test (get_or xs i d) ≡ false)
   Says k xs None = Nowhere xs
@@ -209,7 +209,7 @@ module _ {A : Type 0} (d : A) (test : A → Bool) where
       first_at xs p within passes before
   said xs None s = nowhere xs s
 
-  -- a place that is said passes; where None is said, None passes
+  -- a place that is said passes; where none is said, none passes
   pub said_at : (xs : List A) (f : Option ℕ) → Says 0 xs f → is_at f ≡ true → (place_found f < length xs) × (test (get_or xs (place_found f) d) ≡ true)
   said_at xs (Some p) s e =
       let z : p - 0 ≡ p = omega arith in

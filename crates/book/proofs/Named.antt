@@ -253,7 +253,7 @@ module _ (t : Tables) (sound : Sound t) (number : ℕ) (s : List ℕ) where
         by_faults seen m (λ (x : Effect). is_fault x ≡ false → is_there (order_under t key) ≡ true) (λ reason one h. no (sym h))
         (λ one g three four five six eight h. ap is_there (order_there (record { there = not-false _ (right (names type) _ e five); place = refl }))) ok
 
-    -- "Add makes an order", of an id that named None
+    -- "Add makes an order", of an id that named none
     pub add_new : type ≡ 21 → order_under t key ≡ None
     unfolding order_under
     add_new e =

@@ -139,14 +139,14 @@ module _ (seen : Seen) (m : Message) where
       → P (effect_of seen m)
   unfolding effect_of
   by_faults P fault rest =
-      pick P (not (is_listed type) && is_strict seen.rule) (λ e. fault 1 (λ z. and_right (not (is_listed type)) (is_strict seen.rule) e))
-      λ f1. pick P (not (good_message m)) (λ e. fault 2 (λ z. absurd (omega arith)))
-      λ f2. pick P (eqb type 21 && is_at seen.order) (λ e. fault 3 (λ z. absurd (omega arith)))
-      λ f3. pick P (eqb type 21 && leb 256 seen.live) (λ e. fault 4 (λ z. absurd (omega arith)))
-      λ f4. pick P (names type && not (is_at seen.order)) (λ e. fault 5 (λ z. absurd (omega arith)))
-      λ f5. pick P (executes type && ltb seen.shares (number_in (row_of m) 2)) (λ e. fault 6 (λ z. absurd (omega arith)))
-      λ f6. pick P (executes type && not (eqb (number_in (row_of m) 3) (seen.shares - number_in (row_of m) 2))) (λ e. fault 7 (λ z. absurd (omega arith)))
-      λ f7. pick P (eqb type 26 && (not (is_at seen.inside) && leb 64 seen.held)) (λ e. fault 8 (λ z. absurd (omega arith)))
+      pick P (not (is_listed type) && is_strict seen.rule) (λ e. fault why.Unlisted (λ z. and_right (not (is_listed type)) (is_strict seen.rule) e))
+      λ f1. pick P (not (good_message m)) (λ e. fault why.RuleBroken (λ z. cc))
+      λ f2. pick P (eqb type 21 && is_at seen.order) (λ e. fault why.AlreadyLive (λ z. cc))
+      λ f3. pick P (eqb type 21 && leb 256 seen.live) (λ e. fault why.OrdersFull (λ z. cc))
+      λ f4. pick P (names type && not (is_at seen.order)) (λ e. fault why.NotLive (λ z. cc))
+      λ f5. pick P (executes type && ltb seen.shares (number_in (row_of m) 2)) (λ e. fault why.ExecutedTooMuch (λ z. cc))
+      λ f6. pick P (executes type && not (eqb (number_in (row_of m) 3) (seen.shares - number_in (row_of m) 2))) (λ e. fault why.WrongRemaining (λ z. cc))
+      λ f7. pick P (eqb type 26 && (not (is_at seen.inside) && leb 64 seen.held)) (λ e. fault why.InsidesFull (λ z. cc))
       λ f8. rest f1 (not-false _ f2) f3 f4 f5 f6 f8
 
   pub told : Good m (effect_of seen m) × Change seen m (effect_of seen m)

@@ -24,7 +24,6 @@ use Rattle.book.specs.Named.{first_that, is_there, has_id, order_under, has_symb
 use Rattle.book.specs.Rule.{Sound}
 use Rattle.book.specs.declared.tables.Order.{Order}
 use Rattle.book.specs.declared.tables.Inside.{Inside}
-use Rattle.book.specs.declared.asking.Reply.TheVariants.{Known}
 use Rattle.book.proofs.Finding.{key_some, key_none, symbol_some, symbol_none}
 use Rattle.book.proofs.Keyed.{Nowhere, One, Says, says_here, says_on, says_map, pointed, said, said_at, said_none, there}
 use Rattle.book.proofs.Symbols.{fronted, fronts_same, backs_same, bytes_same}
