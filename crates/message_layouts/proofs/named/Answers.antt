@@ -4,10 +4,10 @@ use Rattle.wire.proofs.Layouts.{within}
 use Rattle.message_layouts.proofs.named.Goals as goal
 
 pub returns : goal.returns
-returns c = λ i. record { time = c.u32_at.ensures i; id = c.text14_at.ensures i }
+returns c = λ i. record { time = c.u32_at.ensures i; id = c.text_at.ensures i }
 
 pub u32_at-requires : goal.u32_at-requires
 u32_at-requires c = within tt c.requires
 
-pub text14_at-requires : goal.text14_at-requires
-text14_at-requires c = within tt c.requires
+pub text_at-requires : goal.text_at-requires
+text_at-requires c = within tt c.requires

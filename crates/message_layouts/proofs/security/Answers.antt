@@ -4,10 +4,10 @@ use Rattle.wire.proofs.Layouts.{within}
 use Rattle.message_layouts.proofs.security.Goals as goal
 
 pub returns : goal.returns
-returns c = λ i. record { symbol = c.text14_at.ensures i; updated = c.u64_at.ensures i; action = c.u8_at.ensures i; class = c.u8_at-2.ensures i; security = c.u32_at.ensures i; flags = c.u16_at.ensures i; tier = c.u8_at-3.ensures i; reporting = c.u8_at-4.ensures i; status = c.u8_at-5.ensures i }
+returns c = λ i. record { symbol = c.text_at.ensures i; updated = c.u64_at.ensures i; action = c.u8_at.ensures i; class = c.u8_at-2.ensures i; security = c.u32_at.ensures i; flags = c.u16_at.ensures i; tier = c.u8_at-3.ensures i; reporting = c.u8_at-4.ensures i; status = c.u8_at-5.ensures i }
 
-pub text14_at-requires : goal.text14_at-requires
-text14_at-requires c = within tt c.requires
+pub text_at-requires : goal.text_at-requires
+text_at-requires c = within tt c.requires
 
 pub u64_at-requires : goal.u64_at-requires
 u64_at-requires c = within tt c.requires
