@@ -8,13 +8,11 @@ use native.Mathlib.Omega.{arith}
 use borrow.Author.Tests.{lt-ltb, le-ltb, eq-eqb, ne_eqb}
 use lib.Dec.{eqb}
 use Rattle.wire.specs.Choice.{first_of}
-use Rattle.packet.specs.Header.{Test, decided, flag_tests, heartbeat, header_in, header_tests, judged}
+use Rattle.packet.specs.Header.{Judged, Test, decided, flag_tests, heartbeat, header_in, header_tests, judged}
 use Rattle.packet.specs.Judging.{body_tests, last_of, packet_tests, judge_of, unless_heartbeat}
 use Rattle.packet.specs.Walk.{walk_from}
 use Rattle.packet.specs.declared.header.Header.{Header}
-use Rattle.packet.specs.declared.header.Judged.{Judged}
-use Rattle.packet.specs.declared.walk.Walked.{Walked}
-use Rattle.packet.specs.declared.walk.Walked.TheVariants.{Whole, Broken}
+use Rattle.std.proofs.Common.{Option, Some, None}
 
 pub joined : (xs ys : List Test) (d : ℕ × ℕ) → first_of (xs ++ ys) d ≡ first_of xs (first_of ys d)
 joined [] ys d = refl
@@ -60,16 +58,16 @@ unfolding header_tests flag_tests
 header_numbered s = refl
 
 -- 7 and 8, by how the walk ended
-module _ {walked : Walked} (seq messages : ℕ) where
-  pub body_broken : {at : ℕ} → walked ≡ Broken at → judged (7, at) ≡ judged (decided (body_tests walked seq messages))
+module _ {walked : Option ℕ} (seq messages : ℕ) where
+  pub body_broken : {at : ℕ} → walked ≡ Some at → judged (7, at) ≡ judged (decided (body_tests walked seq messages))
   unfolding body_tests
   body_broken e = rw e
 
-  pub body_past : walked ≡ Whole → 4294967296 < seq + messages → judged (8, 2) ≡ judged (decided (body_tests walked seq messages))
+  pub body_past : walked ≡ None → 4294967296 < seq + messages → judged (8, 2) ≡ judged (decided (body_tests walked seq messages))
   unfolding body_tests
   body_past e h = rw (e, lt-ltb 4294967295 (last_of seq messages) (omega arith))
 
-  pub body_good : walked ≡ Whole → seq + messages ≤ 4294967296 → judged (0, 0) ≡ judged (decided (body_tests walked seq messages))
+  pub body_good : walked ≡ None → seq + messages ≤ 4294967296 → judged (0, 0) ≡ judged (decided (body_tests walked seq messages))
   unfolding body_tests
   body_good e h = rw (e, le-ltb 4294967295 (last_of seq messages) (omega arith))
 
@@ -101,14 +99,14 @@ module _ (s : List ℕ) {answer : Judged} (told : answer ≡ judged (decided (he
     beats h = told ∙ sym (apart ∙ ap (λ (d : ℕ × ℕ). judged (first_of (header_tests s) d)) (beating h))
 
     -- the tests of a body are those of the header that was read
-    bodied : (walked : Walked) → walked ≡ walk_from head.messages 12 s → (head.flag % 2 ≡ 1 → ⊥) → more ≡ body_tests walked head.seq head.messages
+    bodied : (walked : Option ℕ) → walked ≡ walk_from head.messages 12 s → (head.flag % 2 ≡ 1 → ⊥) → more ≡ body_tests walked head.seq head.messages
     unfolding more
     bodied walked e h =
         simp (ne_eqb ((header_in s).flag % 2) 1 (λ p. h (ap (λ (n : ℕ). n % 2) flag ∙ p)))
-        (sym (ap (λ (w : Walked). body_tests w head.seq head.messages) e
+        (sym (ap (λ (w : Option ℕ). body_tests w head.seq head.messages) e
         ∙ ap (λ (x : Header). body_tests (walk_from x.messages 12 s) x.seq x.messages) read))
 
-    pub body_decides : {walked : Walked} {r : Judged} → answer.test ≡ 0 → (head.flag % 2 ≡ 1 → ⊥) → walked ≡ walk_from head.messages 12 s → r ≡ judged (decided (body_tests walked head.seq head.messages)) → r ≡ judge_of s
+    pub body_decides : {walked : Option ℕ} {r : Judged} → answer.test ≡ 0 → (head.flag % 2 ≡ 1 → ⊥) → walked ≡ walk_from head.messages 12 s → r ≡ judged (decided (body_tests walked head.seq head.messages)) → r ≡ judge_of s
     body_decides {walked} none h e said =
         said
         ∙ ap (λ (tests : List Test). judged (decided tests)) (sym (bodied walked e h))

@@ -9,8 +9,8 @@ use borrow.Author.Tests.{lt-ltb, le-ltb, ltb-false}
 use lib.Dec.{ltb}
 use lib.ListN.{length}
 use Rattle.message.specs.Table.{too_short}
-use Rattle.packet.specs.Walk.{size_at, type_at, broken_at, step_at, walk_from}
-use Rattle.packet.specs.declared.walk.Walked.TheVariants.{Whole, Broken}
+use Rattle.std.proofs.Common.{Some, None}
+use Rattle.packet.specs.Walk.{size_at, type_at, broken_at, some_size, step_at, walk_from}
 
 broken_step : (s : List ℕ) (at : ℕ) → broken_at s at ≡ true → 0 ≡ step_at s at
 unfolding step_at
@@ -108,7 +108,7 @@ step_size s at size told some = go (broken_at s at) refl
 
 -- the walk by one step
 module _ (s : List ℕ) (at size : ℕ) (told : size ≡ step_at s at) where
-  pub walk_stops : (left : ℕ) → 0 < left → size ≡ 0 → Broken at ≡ walk_from left at s
+  pub walk_stops : (left : ℕ) → 0 < left → size ≡ 0 → Some at ≡ walk_from left at s
   unfolding walk_from
   walk_stops zero some none = absurd (omega arith)
   walk_stops (suc left) some none = simp (step_fault s at size told none)
@@ -127,12 +127,12 @@ module _ (s : List ℕ) (at size : ℕ) (told : size ≡ step_at s at) where
       subst (λ (n : ℕ). Lies s at n) (sym h.1) (lies s at h.0)
 
 -- the walk's end
-pub left_over : (s : List ℕ) (at left : ℕ) → left ≤ 0 → at < length s → Broken at ≡ walk_from left at s
+pub left_over : (s : List ℕ) (at left : ℕ) → left ≤ 0 → at < length s → Some at ≡ walk_from left at s
 unfolding walk_from
 left_over s at zero none h = simp (lt-ltb at (length s) h)
 left_over s at (suc left) none h = absurd (omega arith)
 
-pub all_there : (s : List ℕ) (at left : ℕ) → left ≤ 0 → length s ≤ at → Whole ≡ walk_from left at s
+pub all_there : (s : List ℕ) (at left : ℕ) → left ≤ 0 → length s ≤ at → None ≡ walk_from left at s
 unfolding walk_from
 all_there s at zero none h = simp (le-ltb at (length s) h)
 all_there s at (suc left) none h = absurd (omega arith)
