@@ -1,6 +1,6 @@
 -- Document 01, "Applying a message": the fault that is given, the effect, and the tables behind it.
 -- Assumes nothing.
-use Rattle.std.specs.Prelude.{◌≡◌, Bool, true, false, cond, not, ◌&&◌, List, [], ◌∷◌, ◌++◌, ℕ, ◌+◌, ◌-◌, ◌≤◌, eqb, leb, ltb, length, get_or, set}
+use Rattle.std.specs.Prelude.{◌≡◌, Bool, true, false, cond, not, ◌&&◌, List, [], ◌∷◌, ◌++◌, ℕ, ◌+◌, ◌-◌, ◌≤◌, eqb, leb, ltb, length, get_or, set, Option}
 use Rattle.wire.specs.Choice.{first_of, listed_at}
 use Rattle.wire.specs.Layout.{number_in, text_in}
 use Rattle.wire.specs.Number.{part}
@@ -13,8 +13,8 @@ use Rattle.message.specs.Table.{payload_of, too_short}
 use Rattle.message.specs.Whole.{Whole}
 use Rattle.message.specs.declared.kinds.Message.{Message}
 use Rattle.book.specs.Lookup.{is_at, place_found, key_at, symbol_at}
+use Rattle.book.specs.Reasons.{reason_number}
 use Rattle.book.specs.Tables.{Tables, Unlisted, with_orders, with_insides, with_code, with_faults, with_unlisted, blank, ids_of, fronts_of, backs_of}
-use Rattle.book.specs.declared.lookup.Found.{Found}
 use Rattle.book.specs.declared.tables.Order.{Order}
 use Rattle.book.specs.declared.tables.Inside.{Inside}
 use Rattle.book.specs.declared.tables.Faults.{Faults}
@@ -22,6 +22,7 @@ use Rattle.book.specs.declared.tables.OpeningRule.{OpeningRule}
 use Rattle.book.specs.declared.tables.OpeningRule.TheVariants.{Default, Strict}
 use Rattle.book.specs.declared.deciding.Effect.{Effect}
 use Rattle.book.specs.declared.deciding.Effect.TheVariants.{Put, Replace, Remove, Renew, Enter, Record, Unchanged, Fault, CountApart}
+use Rattle.book.specs.declared.deciding.Reason.TheVariants as reason
 
 abbrev pub message_in : List ℕ → Message
 message_in s = fields_of (type_in s) s
@@ -41,23 +42,23 @@ pub record Naming (n : ℕ) (s : List ℕ) (key : ℕ) : Type 0 where
 -- the opening chose
 pub record Seen : Type 0 where
   pub live : ℕ
-  pub order : Found
+  pub order : Option ℕ
   pub shares : ℕ
   pub price : ℕ
   pub held : ℕ
-  pub inside : Found
+  pub inside : Option ℕ
   pub rule : OpeningRule
 
 abbrev pub topic_of : Message → List ℕ
 topic_of m = cond (eqb (type_of m) 26) m.symbol no_text
 
-abbrev pub there_of : List Order → Found → Order
+abbrev pub there_of : List Order → Option ℕ → Order
 there_of orders found = get_or orders (place_found found) blank
 
-abbrev pub order_seen : Tables → Message → Found
+abbrev pub order_seen : Tables → Message → Option ℕ
 order_seen t m = key_at (number_of m.id) (ids_of t.orders)
 
-abbrev pub seen_with : ℕ → Found → Order → ℕ → Found → OpeningRule → Seen
+abbrev pub seen_with : ℕ → Option ℕ → Order → ℕ → Option ℕ → OpeningRule → Seen
 seen_with live order there held inside rule =
     record { live = live; order = order; shares = there.shares; price = there.price; held = held; inside = inside; rule = rule }
 
@@ -88,18 +89,18 @@ faults_of seen m =
     let type = type_of m in
     let executed = number_in (row_of m) 2 in
     let remaining = number_in (row_of m) 3 in
-    (not (is_listed type) && is_strict seen.rule, Fault 1)
-    ∷ (not (good_message m), Fault 2)
-    ∷ (eqb type 21 && is_at seen.order, Fault 3)
-    ∷ (eqb type 21 && leb 256 seen.live, Fault 4)
-    ∷ (names type && not (is_at seen.order), Fault 5)
-    ∷ (executes type && ltb seen.shares executed, Fault 6)
-    ∷ (executes type && not (eqb remaining (seen.shares - executed)), Fault 7)
-    ∷ (eqb type 26 && (not (is_at seen.inside) && leb 64 seen.held), Fault 8)
+    (not (is_listed type) && is_strict seen.rule, Fault reason.Unlisted)
+    ∷ (not (good_message m), Fault reason.RuleBroken)
+    ∷ (eqb type 21 && is_at seen.order, Fault reason.AlreadyLive)
+    ∷ (eqb type 21 && leb 256 seen.live, Fault reason.OrdersFull)
+    ∷ (names type && not (is_at seen.order), Fault reason.NotLive)
+    ∷ (executes type && ltb seen.shares executed, Fault reason.ExecutedTooMuch)
+    ∷ (executes type && not (eqb remaining (seen.shares - executed)), Fault reason.WrongRemaining)
+    ∷ (eqb type 26 && (not (is_at seen.inside) && leb 64 seen.held), Fault reason.InsidesFull)
     ∷ []
 
 -- 24 and 25 subtract executed, and at zero the order leaves
-abbrev pub execution_of : Found → ℕ → ℕ → ℕ → Effect
+abbrev pub execution_of : Option ℕ → ℕ → ℕ → ℕ → Effect
 execution_of order shares price executed =
     cond (eqb (shares - executed) 0)
     (Remove (place_found order))
@@ -125,7 +126,7 @@ effect_of seen m = first_of (faults_of seen m) (change_of seen m)
 
 -- all that a type does that is not in the table (the law `unlisted_does`)
 abbrev pub unlisted_under : OpeningRule → Effect
-unlisted_under rule = cond (is_strict rule) (Fault 1) CountApart
+unlisted_under rule = cond (is_strict rule) (Fault reason.Unlisted) CountApart
 
 -- whether a message is counted apart (the law `apart_grows`: it and no other)
 abbrev pub is_apart : OpeningRule → List ℕ → Bool
@@ -170,7 +171,7 @@ carried t number m (Renew place) = with_insides t (set t.insides place (inside_o
 carried t number m Enter = with_insides t (t.insides ++ (inside_of m ∷ []))
 carried t number m (Record code) = with_code t code
 carried t number m Unchanged = t
-carried t number m (Fault reason) = with_faults t (faulted t.faults number reason)
+carried t number m (Fault reason) = with_faults t (faulted t.faults number (reason_number reason))
 carried t number m CountApart = with_unlisted t (counted_apart t.unlisted)
 
 -- the effect of a message on the tables, and the tables behind it

@@ -1,48 +1,40 @@
 -- Document 01, "Asking": by order id, by symbol and side, the inside by symbol; 12 where a rule is broken, 13 where there is none.
 -- Assumes nothing.
-use Rattle.std.specs.Prelude.{◌≡◌, Bool, cond, not, ◌&&◌, List, [], ◌∷◌, ℕ, ◌+◌, ◌≤◌, eqb, ltb, get_or}
+use Rattle.std.specs.Prelude.{◌≡◌, Bool, cond, not, ◌&&◌, List, [], ◌∷◌, ℕ, ◌+◌, ◌≤◌, eqb, ltb, get_or, Result, Ok, Err}
+use Rattle.refusals.specs.declared.Refusal.{Refusal}
+use Rattle.refusals.specs.declared.Refusal.TheVariants.{BadQuestion, NotThere}
 use Rattle.wire.specs.Choice.{first_of}
 use Rattle.fields.specs.Id.{good_id, number_of}
 use Rattle.fields.specs.Rules.{good_symbol, good_side}
 use Rattle.book.specs.Lookup.{is_at, place_found, key_at, symbol_at, same_symbol}
-use Rattle.book.specs.Tables.{Tables, blank, gone, no_order, no_inside, ids_of, fronts_of, backs_of}
+use Rattle.book.specs.Tables.{Tables, blank, gone, ids_of, fronts_of, backs_of}
 use Rattle.book.specs.declared.tables.Order.{Order}
 use Rattle.book.specs.declared.tables.Inside.{Inside}
-use Rattle.book.specs.declared.asking.Reply.TheVariants.{Known, Refused}
 use Rattle.book.specs.declared.asking.Level.{Level}
-use Rattle.book.specs.declared.asking.OrderReply.{OrderReply}
-use Rattle.book.specs.declared.asking.InsideReply.{InsideReply}
-use Rattle.book.specs.declared.asking.BestReply.{BestReply}
 
--- ---- by order id: the order, or 12 (id breaks its rule), or 13 (not live)
+-- ---- by order id: the order; 12 where the id breaks its rule, 13 where it is not live
 
-abbrev pub no_order_for : ℕ → OrderReply
-no_order_for number = record { reply = Refused number; order = no_order }
-
-unfoldable pub order_asked : Tables → List ℕ → OrderReply
+unfoldable pub order_asked : Tables → List ℕ → Result Order Refusal
 order_asked t id =
     let found = key_at (number_of id) (ids_of t.orders) in
     first_of
-    ((not (good_id id), no_order_for 12)
-    ∷ (not (is_at found), no_order_for 13)
+    ((not (good_id id), Err BadQuestion)
+    ∷ (not (is_at found), Err NotThere)
     ∷ [])
-    (record { reply = Known; order = get_or t.orders (place_found found) blank })
+    (Ok (get_or t.orders (place_found found) blank))
 
 -- ---- the inside by symbol: likewise
 
-abbrev pub no_inside_for : ℕ → InsideReply
-no_inside_for number = record { reply = Refused number; inside = no_inside }
-
-unfoldable pub inside_for : List Inside → List ℕ → InsideReply
+unfoldable pub inside_for : List Inside → List ℕ → Result Inside Refusal
 inside_for held symbol =
     let found = symbol_at symbol (fronts_of held) (backs_of held) in
     first_of
-    ((not (good_symbol symbol), no_inside_for 12)
-    ∷ (not (is_at found), no_inside_for 13)
+    ((not (good_symbol symbol), Err BadQuestion)
+    ∷ (not (is_at found), Err NotThere)
     ∷ [])
-    (record { reply = Known; inside = get_or held (place_found found) gone })
+    (Ok (get_or held (place_found found) gone))
 
-abbrev pub inside_asked : Tables → List ℕ → InsideReply
+abbrev pub inside_asked : Tables → List ℕ → Result Inside Refusal
 inside_asked t = inside_for t.insides
 
 -- ---- by symbol and side: the best price, the sum of shares there and the number of orders
@@ -100,22 +92,19 @@ unfoldable pub best_in : List ℕ → ℕ → List Order → Level
 best_in symbol side [] = no_level
 best_in symbol side (o ∷ os) = joined symbol side o (best_in symbol side os)
 
-abbrev pub no_level_for : ℕ → BestReply
-no_level_for number = record { reply = Refused number; level = no_level }
-
 -- 12 for a bad symbol or side, 13 exactly if no such order is live
-unfoldable pub reply_with : Bool → Level → BestReply
+unfoldable pub reply_with : Bool → Level → Result Level Refusal
 reply_with good level =
     first_of
-    ((not good, no_level_for 12)
-    ∷ (eqb level.orders 0, no_level_for 13)
+    ((not good, Err BadQuestion)
+    ∷ (eqb level.orders 0, Err NotThere)
     ∷ [])
-    (record { reply = Known; level = level })
+    (Ok level)
 
-unfoldable pub best_for : List Order → List ℕ → ℕ → BestReply
+unfoldable pub best_for : List Order → List ℕ → ℕ → Result Level Refusal
 best_for live symbol side = reply_with (good_symbol symbol && good_side side) (best_in symbol side live)
 
-abbrev pub best_asked : Tables → List ℕ → ℕ → BestReply
+abbrev pub best_asked : Tables → List ℕ → ℕ → Result Level Refusal
 best_asked t = best_for t.orders
 
 -- the sums so far are small enough for one order more: no sum of shares wraps

@@ -1,29 +1,25 @@
 -- Where an order is live, and where a symbol's inside is held.
 -- Assumes nothing.
-use Rattle.std.specs.Prelude.{Bool, true, false, cond, ◌&&◌, List, [], ◌∷◌, ◌≡◌, ℕ, zero, suc, ◌≤◌, eqb}
+use Rattle.std.specs.Prelude.{Bool, true, false, cond, ◌&&◌, List, [], ◌∷◌, ◌≡◌, ℕ, suc, ◌≤◌, eqb, Option, Some, None, is_some, unwrap_or}
 use Rattle.wire.specs.Number.{num, part}
 use Rattle.fields.specs.Id.{no_value}
-use Rattle.book.specs.declared.lookup.Found.{Found}
 use Rattle.book.specs.declared.lookup.Parts.{Parts}
-use Rattle.book.specs.declared.lookup.Found.TheVariants.{At, Nothing}
 
 -- whether it is there, and its place
-abbrev pub is_at : Found → Bool
-is_at (At place) = true
-is_at Nothing = false
+abbrev pub is_at : Option ℕ → Bool
+is_at found = is_some found
 
-abbrev pub place_found : Found → ℕ
-place_found (At place) = place
-place_found Nothing = 0
+abbrev pub place_found : Option ℕ → ℕ
+place_found found = unwrap_or found 0
 
 -- the first place from k on that has the key
-unfoldable pub key_from : ℕ → ℕ → List ℕ → Found
-key_from k key [] = Nothing
-key_from k key (x ∷ xs) = cond (eqb x key) (At k) (key_from (suc k) key xs)
+unfoldable pub key_from : ℕ → ℕ → List ℕ → Option ℕ
+key_from k key [] = None
+key_from k key (x ∷ xs) = cond (eqb x key) (Some k) (key_from (suc k) key xs)
 
 -- the place of an id's value; an id that breaks its rule has no_value, and names no order
-unfoldable pub key_at : ℕ → List ℕ → Found
-key_at key keys = cond (eqb key no_value) Nothing (key_from 0 key keys)
+unfoldable pub key_at : ℕ → List ℕ → Option ℕ
+key_at key keys = cond (eqb key no_value) None (key_from 0 key keys)
 
 -- a symbol as two numbers: its first eight bytes and its last eight. Of 14 bytes they leave none out,
 -- so symbols with the same two are the same (the law `same_bytes`)
@@ -48,12 +44,12 @@ pub record Apart (symbol : List ℕ) (p : Parts) : Type 0 where
   pub low : num (part symbol 6 2) ≤ 65535
   pub short : num (part symbol 12 2) ≤ 65535
 
-unfoldable pub pair_from : ℕ → ℕ → ℕ → List ℕ → List ℕ → Found
-pair_from k first last [] [] = Nothing
-pair_from k first last [] (y ∷ ys) = Nothing
-pair_from k first last (x ∷ xs) [] = Nothing
-pair_from k first last (x ∷ xs) (y ∷ ys) = cond (eqb x first && eqb y last) (At k) (pair_from (suc k) first last xs ys)
+unfoldable pub pair_from : ℕ → ℕ → ℕ → List ℕ → List ℕ → Option ℕ
+pair_from k first last [] [] = None
+pair_from k first last [] (y ∷ ys) = None
+pair_from k first last (x ∷ xs) [] = None
+pair_from k first last (x ∷ xs) (y ∷ ys) = cond (eqb x first && eqb y last) (Some k) (pair_from (suc k) first last xs ys)
 
 -- the place of a symbol; no symbol begins with eight zero bytes
-unfoldable pub symbol_at : List ℕ → List ℕ → List ℕ → Found
-symbol_at symbol fronts backs = cond (eqb (front_of symbol) 0) Nothing (pair_from 0 (front_of symbol) (back_of symbol) fronts backs)
+unfoldable pub symbol_at : List ℕ → List ℕ → List ℕ → Option ℕ
+symbol_at symbol fronts backs = cond (eqb (front_of symbol) 0) None (pair_from 0 (front_of symbol) (back_of symbol) fronts backs)

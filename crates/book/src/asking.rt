@@ -1,19 +1,13 @@
-// The replies to what can be asked, and the best of a table. Beside a refusal the record is all zero.
+// The best of a table: the price, the shares and the orders of a symbol and side.
 ghost use Rattle.std.specs.Prelude.{◌≡◌, cond, ◌&&◌, List, ℕ, ◌≤◌, length, take};
 ghost use Rattle.fields.specs.Rules.{good_symbol, good_side};
 ghost use Rattle.book.specs.Lookup.{Apart};
-ghost use Rattle.book.specs.Asking.{best_for, better as betterOf, Joins, is_of, no_order_for, no_inside_for, no_level, no_level_for, reply_with, Room};
+ghost use Rattle.book.specs.Asking.{best_for, better as betterOf, Joins, is_of, no_level, reply_with, Room};
 
-use crate::lookup::{Parts, parts_of, same};
-use crate::tables::{Inside, ORDERS, Order, no_inside, no_order};
+use crate::lookup::{Parts, parts_of};
+use crate::tables::{ORDERS, Order};
 use fields_rules::{good_side, good_symbol};
-
-// Refused: 12 where a rule is broken, 13 where there is none.
-#[derive(Clone, Copy)]
-pub enum Reply {
-    Known,
-    Refused(u8),
-}
+use refusals::Refusal;
 
 // A price, the sum of shares there and the number of orders.
 #[derive(Clone, Copy)]
@@ -21,40 +15,6 @@ pub struct Level {
     pub price: u64,
     pub shares: u64,
     pub orders: u64,
-}
-
-#[derive(Clone, Copy)]
-pub struct OrderReply {
-    pub reply: Reply,
-    pub order: Order,
-}
-
-#[derive(Clone, Copy)]
-pub struct InsideReply {
-    pub reply: Reply,
-    pub inside: Inside,
-}
-
-#[derive(Clone, Copy)]
-pub struct BestReply {
-    pub reply: Reply,
-    pub level: Level,
-}
-
-pub fn no_order_for(number: u8) -> OrderReply
-    ensures { result ≡ no_order_for number }
-{
-    let reply = Reply::Refused(number);
-    let order = no_order();
-    OrderReply { reply, order }
-}
-
-pub fn no_inside_for(number: u8) -> InsideReply
-    ensures { result ≡ no_inside_for number }
-{
-    let reply = Reply::Refused(number);
-    let inside = no_inside();
-    InsideReply { reply, inside }
 }
 
 pub fn no_level() -> Level
@@ -65,14 +25,6 @@ pub fn no_level() -> Level
         shares: 0,
         orders: 0,
     }
-}
-
-pub fn no_level_for(number: u8) -> BestReply
-    ensures { result ≡ no_level_for number }
-{
-    let reply = Reply::Refused(number);
-    let level = no_level();
-    BestReply { reply, level }
 }
 
 // Highest bid, lowest ask.
@@ -94,7 +46,7 @@ fn belongs(parts: Parts, side: u8, order: Order) -> bool
         return false;
     }
     let listed = order.symbol;
-    same(parts_of(listed), parts)
+    parts_of(listed) == parts
 }
 
 // One order more: the level it makes alone, the level with it, or the level as it was.
@@ -143,21 +95,25 @@ pub fn due(good: bool, live: usize) -> usize
     if good { live } else { 0 }
 }
 
-// By the level of all live orders.
-pub fn reply_with(good: bool, level: Level) -> BestReply
+// By the level of all live orders: refused where a rule is broken, or where there is none.
+pub fn reply_with(good: bool, level: Level) -> Result<Level, Refusal>
     ensures { result ≡ reply_with good level }
 {
     if !good {
-        return no_level_for(12);
+        return Err(Refusal::BadQuestion);
     }
     if level.orders == 0 {
-        return no_level_for(13);
+        return Err(Refusal::NotThere);
     }
-    let reply = Reply::Known;
-    BestReply { reply, level }
+    Ok(level)
 }
 
-pub fn best(orders: [Order; ORDERS], live: usize, symbol: [u8; 14], side: u8) -> BestReply
+pub fn best(
+    orders: [Order; ORDERS],
+    live: usize,
+    symbol: [u8; 14],
+    side: u8,
+) -> Result<Level, Refusal>
     requires { (live ≤ 256) × (length orders ≡ 256) }
     ensures { result ≡ best_for (take live orders) symbol side }
 {

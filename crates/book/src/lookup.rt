@@ -1,21 +1,12 @@
 // Parts: what a look-up found, and a symbol as numbers.
 ghost use Rattle.std.specs.Prelude.{◌≡◌, ◌≤◌, length};
-ghost use Rattle.book.specs.Lookup.{front_of, back_of, place_found, same_parts, Apart};
-
-#[derive(Clone, Copy)]
-pub enum Found {
-    At(usize),
-    Nothing,
-}
+ghost use Rattle.book.specs.Lookup.{front_of, back_of, place_found, Apart};
 
 // The place that a look-up found, or the first where it found none.
-pub fn place_found(found: Found) -> usize
+pub fn place_found(found: Option<usize>) -> usize
     ensures { result ≡ place_found found }
 {
-    match found {
-        Found::At(place) => place,
-        Found::Nothing => 0,
-    }
+    found.unwrap_or(0)
 }
 
 // A symbol's first eight bytes, and its last eight.
@@ -32,7 +23,7 @@ pub fn back(symbol: [u8; 14]) -> u64
 }
 
 // A symbol's first eight bytes, the next four and the last two. They share no byte, so each is one load.
-#[derive(Clone, Copy)]
+#[derive(Clone, Copy, Debug, PartialEq, Eq)]
 pub struct Parts {
     pub first: u64,
     pub middle: u32,
@@ -54,16 +45,4 @@ pub fn parts_of(symbol: [u8; 14]) -> Parts
     ensures { Apart symbol result }
 {
     parts_in(&symbol)
-}
-
-pub fn same(one: Parts, other: Parts) -> bool
-    ensures { result ≡ same_parts one other }
-{
-    if one.first != other.first {
-        return false;
-    }
-    if one.middle != other.middle {
-        return false;
-    }
-    one.last == other.last
 }

@@ -8,8 +8,7 @@ ghost use Rattle.message.specs.Row.{fields_of};
 ghost use Rattle.message.specs.Whole.{Whole};
 ghost use Rattle.book.specs.Applying.{Keyed, Naming, Seen, message_in, names, effect_of, unlisted_under};
 
-use book::deciding::Effect;
-use book::lookup::Found;
+use book::deciding::{Effect, Reason};
 use book::tables::OpeningRule;
 use book_judging::{added, deleted, executed, kept, shown, updated};
 use fields::parts::is_value;
@@ -17,7 +16,7 @@ use fields::parts::is_value;
 pub mod reading;
 
 // 21, an Order Add.
-pub fn add(bytes: &[u8], key: u64, order: Found, live: usize) -> Effect
+pub fn add(bytes: &[u8], key: u64, order: Option<usize>, live: usize) -> Effect
     requires { Naming 55 bytes.now key }
     ensures { (seen : Seen) → seen.order ≡ order → seen.live ≡ live → result ≡ effect_of seen (fields_of 21 bytes.now) }
 {
@@ -34,7 +33,7 @@ pub fn add(bytes: &[u8], key: u64, order: Found, live: usize) -> Effect
     added(broken == 0, order, live)
 }
 
-fn update(bytes: &[u8], key: u64, order: Found) -> Effect
+fn update(bytes: &[u8], key: u64, order: Option<usize>) -> Effect
     requires { Naming 35 bytes.now key }
     ensures { (seen : Seen) → seen.order ≡ order → result ≡ effect_of seen (fields_of 22 bytes.now) }
 {
@@ -43,7 +42,7 @@ fn update(bytes: &[u8], key: u64, order: Found) -> Effect
     updated(broken == 0, order, fields.quantity, fields.price)
 }
 
-fn delete(bytes: &[u8], key: u64, order: Found) -> Effect
+fn delete(bytes: &[u8], key: u64, order: Option<usize>) -> Effect
     requires { Naming 21 bytes.now key }
     ensures { (seen : Seen) → seen.order ≡ order → result ≡ effect_of seen (fields_of 23 bytes.now) }
 {
@@ -51,7 +50,7 @@ fn delete(bytes: &[u8], key: u64, order: Found) -> Effect
     deleted(broken == 0, order)
 }
 
-fn execution(bytes: &[u8], key: u64, order: Found, shares: u32, price: u64) -> Effect
+fn execution(bytes: &[u8], key: u64, order: Option<usize>, shares: u32, price: u64) -> Effect
     requires { Naming 37 bytes.now key }
     ensures { (seen : Seen) → seen.order ≡ order → seen.shares ≡ shares → seen.price ≡ price → result ≡ effect_of seen (fields_of 24 bytes.now) }
 {
@@ -67,7 +66,7 @@ fn execution(bytes: &[u8], key: u64, order: Found, shares: u32, price: u64) -> E
     )
 }
 
-fn priced(bytes: &[u8], key: u64, order: Found, shares: u32, price: u64) -> Effect
+fn priced(bytes: &[u8], key: u64, order: Option<usize>, shares: u32, price: u64) -> Effect
     requires { Naming 45 bytes.now key }
     ensures { (seen : Seen) → seen.order ≡ order → seen.shares ≡ shares → seen.price ≡ price → result ≡ effect_of seen (fields_of 25 bytes.now) }
 {
@@ -84,7 +83,7 @@ fn priced(bytes: &[u8], key: u64, order: Found, shares: u32, price: u64) -> Effe
 }
 
 // 22 to 25, with the shares and the price of the order that is named.
-pub fn change(bytes: &[u8], key: u64, order: Found, shares: u32, price: u64) -> Effect
+pub fn change(bytes: &[u8], key: u64, order: Option<usize>, shares: u32, price: u64) -> Effect
     requires { Keyed bytes.now key × (names (type_in bytes.now) ≡ true) }
     ensures { (seen : Seen) → seen.order ≡ order → seen.shares ≡ shares → seen.price ≡ price → result ≡ effect_of seen (message_in bytes.now) }
 {
@@ -106,7 +105,7 @@ fn session(bytes: &[u8]) -> Effect
     kept(broken == 0, Effect::Record(fields.session))
 }
 
-fn top(bytes: &[u8], inside: Found, held: usize) -> Effect
+fn top(bytes: &[u8], inside: Option<usize>, held: usize) -> Effect
     requires { 46 ≤ length bytes.now }
     ensures { (seen : Seen) → seen.inside ≡ inside → seen.held ≡ held → result ≡ effect_of seen (fields_of 26 bytes.now) }
 {
@@ -142,12 +141,12 @@ fn unlisted(rule: OpeningRule) -> Effect
 {
     match rule {
         OpeningRule::Default => Effect::CountApart,
-        OpeningRule::Strict => Effect::Fault(1),
+        OpeningRule::Strict => Effect::Fault(Reason::Unlisted),
     }
 }
 
 // Every other type: none of them touches an order.
-pub fn tell(bytes: &[u8], inside: Found, held: usize, rule: OpeningRule) -> Effect
+pub fn tell(bytes: &[u8], inside: Option<usize>, held: usize, rule: OpeningRule) -> Effect
     requires { Whole bytes.now × ((leb 21 (type_in bytes.now) && leb (type_in bytes.now) 25) ≡ false) }
     ensures { (seen : Seen) → seen.inside ≡ inside → seen.held ≡ held → seen.rule ≡ rule → result ≡ effect_of seen (message_in bytes.now) }
 {

@@ -9,7 +9,7 @@ use borrow.Author.Tests.{eqb-true, eqb-false}
 use lib.Dec.{eqb}
 use lib.ListN.{length, get_or, take, set, replicate, length-replicate, get_or-replicate, length-map, get_or-map}
 use lib.Seq.{ext_get_or}
-use Rattle.book_index.specs.Chains.{below, chain_of, chain_at, cell_of, index_by, index_of, last_at, first_from, Distinct}
+use Rattle.book_index.specs.Chains.{below, chain_of, chain_at, cell_of, index_by, index_of, last_at, place_of, first_from, Distinct}
 use Rattle.book_index.specs.Changes.{without}
 use Rattle.book_index.proofs.Below.{pick, order, only}
 use Rattle.book_index.proofs.Cells.{cell_on, cell_off}
@@ -109,10 +109,11 @@ first_is k key (x ∷ xs) =
     (λ e. first_here f key k (length xs) (eqb-true x key e))
     (λ e. first_on f key k (length xs) (first_from (suc k) key xs) (eqb-false x key e) (first_is (suc k) key xs))
 
-pub last_first : (key : ℕ) (ids : List ℕ) → Distinct ids → last_at key ids ≡ first_from 0 key ids
+pub last_first : (key : ℕ) (ids : List ℕ) → Distinct ids → last_at key ids ≡ place_of (first_from 0 key ids)
 unfolding last_at
 last_first key ids distinct =
-    first_last (λ (p : ℕ). get_or ids p 0) key (length ids) (λ i j l h e z. distinct i j l h (e ∙ sym z)) (first_from 0 key ids) (first_is 0 key ids)
+    ap place_of
+    (first_last (λ (p : ℕ). get_or ids p 0) key (length ids) (λ i j l h e z. distinct i j l h (e ∙ sym z)) (first_from 0 key ids) (first_is 0 key ids))
 
 -- ---- a removal goes through a map
 

@@ -12,10 +12,11 @@ use borrow.Author.Tests.{eqb-true, eq-eqb}
 use lib.Dec.{eqb}
 use lib.ListN.{length, get_or, take, set, length-set}
 use lib.Seq.{get_or-take, length-take-le, take-suc-set}
-use Rattle.book_index.specs.Chains.{below, index_of}
+use Rattle.std.specs.Prelude.{Some, None}
+use Rattle.book_index.specs.Chains.{below, index_of, place_of}
 use Rattle.book_index.specs.Changes.{Open}
 use Rattle.book_index.specs.Pairs.{both_at, last_pair, first_pair, Paired, IsPair}
-use Rattle.book_index.proofs.Below.{pick, highest, below-same}
+use Rattle.book_index.proofs.Below.{pick, below-same}
 use Rattle.book_index.proofs.Laws.{First, first_none, first_here, first_on, first_last}
 use Rattle.book_index.proofs.Walks.{Sought}
 
@@ -57,16 +58,20 @@ module _ (index fronts backs : List ℕ) (held : ℕ) (x : Paired index fronts b
           only_key = λ p l e. get_or-take held fronts p 0 l ∙ (both_are first last fronts backs p e).0;
         }
 
-    pub is_pair : {r : ℕ} → below (both_at first last fronts backs) 1 held ≡ r → IsPair first last fronts backs held r
-    unfolding last_pair both_at
-    is_pair e =
+    below_held : below (both_at first last fronts backs) 1 held ≡ below (both_at first last (take held fronts) (take held backs)) 1 (length (take held fronts))
+    unfolding both_at
+    below_held =
         let f = both_at first last (take held fronts) (take held backs) in
-        record {
-          is = sym e
-              ∙ below-same (both_at first last fronts backs) f 1 held (λ p l. simp (get_or-take held fronts p 0 l, get_or-take held backs p 0 l))
-              ∙ ap (below f 1) (sym count);
-          most = rw e at (highest (both_at first last fronts backs) 1 held).most;
-        }
+        below-same (both_at first last fronts backs) f 1 held (λ p l. simp (get_or-take held fronts p 0 l, get_or-take held backs p 0 l))
+        ∙ ap (below f 1) (sym count)
+
+    pub pair_none : below (both_at first last fronts backs) 1 held ≡ 0 → IsPair first last fronts backs held None
+    unfolding last_pair
+    pair_none e = record { is = ap place_of (sym e ∙ below_held); within = tt }
+
+    pub pair_some : {place : ℕ} → place < held → below (both_at first last fronts backs) 1 held ≡ suc place → IsPair first last fronts backs held (Some place)
+    unfolding last_pair
+    pair_some l e = record { is = ap place_of (sym e ∙ below_held); within = l }
 
 -- ---- the first place and the last
 
@@ -90,10 +95,10 @@ first_is k first last (x ∷ xs) (y ∷ ys) l =
     (first_is (suc k) first last xs ys (omega arith)))
 
 pub pair_first : (first last : ℕ) (xs ys : List ℕ) → length xs ≡ length ys → Apart xs ys
-    → last_pair first last xs ys ≡ first_pair 0 first last xs ys
+    → last_pair first last xs ys ≡ place_of (first_pair 0 first last xs ys)
 unfolding last_pair
 pair_first first last xs ys l apart =
-    first_last (both_at first last xs ys) 1 (length xs) once (first_pair 0 first last xs ys) (first_is 0 first last xs ys l)
+    ap place_of (first_last (both_at first last xs ys) 1 (length xs) once (first_pair 0 first last xs ys) (first_is 0 first last xs ys l))
   where
     once : (i j : ℕ) → i < j → j < length xs → both_at first last xs ys i ≡ 1 → both_at first last xs ys j ≢ 1
     once i j low high e z =

@@ -2,14 +2,15 @@
 -- Assumes nothing.
 use mathlib.Core.Path.{◌≡◌, refl, sym, ap, ◌∙◌}
 use mathlib.Core.Logic.{◌≢◌}
+use Rattle.std.specs.Prelude.{Some, None}
 use mathlib.Core.List.{List, [], ◌∷◌, map}
 use Prim.Native.Nat.{ℕ, zero, suc, ◌+◌, ◌-◌, ◌≤◌, ◌<◌}
 use native.Mathlib.Omega.{arith}
 use lib.ListN.{length, get_or, take, length-map, get_or-eq_default}
 use lib.Seq.{get_or-take, length-take-le}
-use Rattle.book_index.specs.Chains.{below, chain_of, chain_at, index_by, index_of, last_at, Indexed, IsLast}
+use Rattle.book_index.specs.Chains.{below, chain_of, chain_at, index_by, index_of, last_at, place_of, Indexed, IsLast}
 use Rattle.book_index.specs.Changes.{Behind}
-use Rattle.book_index.proofs.Below.{order, Highest, highest, only, below-same}
+use Rattle.book_index.proofs.Below.{order, Highest, only, below-same}
 use Rattle.book_index.proofs.Chained.{chain_below, of_place, head_on, lower, inside, reading}
 
 -- the chains of keys: that of each, and behind them none
@@ -109,8 +110,11 @@ module _ {index ids : List ℕ} {n key : ℕ} {f : ℕ → ℕ} {v : ℕ} (x : S
         let l = inside (map chain_of ids) (chain_of key) (at - 1) (chain_below key) (sym (of_place (map chain_of ids) (at - 1) low) ∙ on) in
         omega (arith, length-map ids chain_of, x.count)
 
-    pub seek_found : at ≢ 0 → f (at - 1) ≡ v → below f v n ≡ at
-    seek_found h e = let l = seek_live h in only f v (record { most = omega arith; there = λ q. e; free = none_from })
+    pub seek_found : at ≢ 0 → f (at - 1) ≡ v → below f v n ≡ suc (at - 1)
+    seek_found h e =
+        let l = seek_live h in
+        let back : suc (at - 1) ≡ at = omega arith in
+        rw back (only f v (record { most = omega arith; there = λ q. e; free = none_from }))
 
     pub seek_on : at ≢ 0 → f (at - 1) ≢ v → Seeking ids n key f v (at - 1)
     seek_on h e =
@@ -133,11 +137,15 @@ module _ (index keys : List ℕ) (live key : ℕ) (x : Indexed index keys live) 
   pub seek_key : Sought index (take live keys) live key key_at key
   seek_key = record { is = x.is; count = count; few = x.few; only_key = λ p l e. get_or-take live keys p 0 l ∙ e }
 
-  pub is_last : {r : ℕ} → below key_at key live ≡ r → IsLast key keys live r
-  unfolding last_at
-  is_last e =
+  below_live : below key_at key live ≡ below (λ p. get_or (take live keys) p 0) key (length (take live keys))
+  below_live =
       let f : ℕ → ℕ = λ p. get_or (take live keys) p 0 in
-      record {
-        is = sym e ∙ below-same key_at f key live (λ p l. sym (get_or-take live keys p 0 l)) ∙ ap (below f key) (sym count);
-        most = rw e at (highest key_at key live).most;
-      }
+      below-same key_at f key live (λ p l. sym (get_or-take live keys p 0 l)) ∙ ap (below f key) (sym count)
+
+  pub last_none : below key_at key live ≡ 0 → IsLast key keys live None
+  unfolding last_at
+  last_none e = record { is = ap place_of (sym e ∙ below_live); within = tt }
+
+  pub last_some : {place : ℕ} → place < live → below key_at key live ≡ suc place → IsLast key keys live (Some place)
+  unfolding last_at
+  last_some l e = record { is = ap place_of (sym e ∙ below_live); within = l }

@@ -3,7 +3,7 @@
 -- on none, and holds 0. Any other cell holds the last cell before it on the same chain, plus 1, or 0 where there is none: from
 -- the head on, the places fall.
 -- Assumes nothing.
-use Rattle.std.specs.Prelude.{◌≡◌, ◌≢◌, cond, List, [], ◌∷◌, map, ℕ, zero, suc, ◌-◌, ◌%◌, ◌≤◌, ◌<◌, eqb, ltb, length, get_or, take}
+use Rattle.std.specs.Prelude.{◌≡◌, ◌≢◌, cond, List, [], ◌∷◌, map, ℕ, zero, suc, ◌-◌, ◌%◌, ◌≤◌, ◌<◌, eqb, ltb, length, get_or, take, Option, Some, None, IfSome}
 
 -- the last number below n at which f is v, plus 1; 0 where there is none
 unfoldable pub below : (ℕ → ℕ) → ℕ → ℕ → ℕ
@@ -34,9 +34,14 @@ index_by chains = table_from (cell_of (chain_at chains)) 0 765
 unfoldable pub index_of : List ℕ → List ℕ
 index_of ids = index_by (map chain_of ids)
 
--- the last place that has a key, plus 1; 0 where none has it
-unfoldable pub last_at : ℕ → List ℕ → ℕ
-last_at key ids = below (λ place. get_or ids place 0) key (length ids)
+-- the place that a cell's number tells: 1 less than it, and none at 0
+abbrev pub place_of : ℕ → Option ℕ
+place_of zero = None
+place_of (suc place) = Some place
+
+-- the last place that has a key
+unfoldable pub last_at : ℕ → List ℕ → Option ℕ
+last_at key ids = place_of (below (λ place. get_or ids place 0) key (length ids))
 
 -- the first place from k on that has a key, plus 1; 0 where none has it
 unfoldable pub first_from : ℕ → ℕ → List ℕ → ℕ
@@ -54,6 +59,6 @@ pub record Indexed (index keys : List ℕ) (live : ℕ) : Type 0 where
   pub is : index ≡ index_of (take live keys)
 
 -- the last place that has a key among the first `live`, as an answer
-pub record IsLast (key : ℕ) (keys : List ℕ) (live r : ℕ) : Type 0 where
+pub record IsLast (key : ℕ) (keys : List ℕ) (live : ℕ) (r : Option ℕ) : Type 0 where
   pub is : r ≡ last_at key (take live keys)
-  pub most : r ≤ live
+  pub within : IfSome r (λ place. place < live)

@@ -32,8 +32,8 @@ fn head(key: u64) -> usize
     PLACES + (key % CHAINS) as usize
 }
 
-// The place of a live key, plus 1; 0 where it is not live.
-pub fn find<'a>(index: &'a [u64], keys: &'a [u64], live: usize, key: u64) -> usize
+// The place of a live key.
+pub fn find<'a>(index: &'a [u64], keys: &'a [u64], live: usize, key: u64) -> Option<usize>
     requires { Indexed index.now keys.now live }
     ensures { IsLast key keys.now live result }
 {
@@ -41,16 +41,16 @@ pub fn find<'a>(index: &'a [u64], keys: &'a [u64], live: usize, key: u64) -> usi
     loop {
         let at = index[cell] as usize;
         if at == 0 {
-            return 0;
+            return None;
         }
         cell = at - 1;
         if keys[cell] == key {
-            return at;
+            return Some(cell);
         }
     }
 }
 
-// The place of a symbol's inside, plus 1; 0 where none is held. Symbols that begin alike are on one
+// The place of a symbol's inside. Symbols that begin alike are on one
 // chain, so both numbers are compared.
 pub fn pair<'a>(
     index: &'a [u64],
@@ -59,7 +59,7 @@ pub fn pair<'a>(
     held: usize,
     first: u64,
     last: u64,
-) -> usize
+) -> Option<usize>
     requires { Paired index.now fronts.now backs.now held }
     ensures { IsPair first last fronts.now backs.now held result }
 {
@@ -67,12 +67,12 @@ pub fn pair<'a>(
     loop {
         let at = index[cell] as usize;
         if at == 0 {
-            return 0;
+            return None;
         }
         cell = at - 1;
         if fronts[cell] == first {
             if backs[cell] == last {
-                return at;
+                return Some(cell);
             }
         }
     }

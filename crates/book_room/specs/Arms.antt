@@ -1,7 +1,7 @@
 -- What a message has done once its arm is through: the room holds the tables behind it, and what is left to do in the session's
 -- table of orders.
 -- Assumes nothing.
-use Rattle.std.specs.Prelude.{◌≡◌, List, ℕ, ◌<◌, get_or, set, take}
+use Rattle.std.specs.Prelude.{◌≡◌, List, ℕ, ◌<◌, get_or, set, take, Option, Some, None}
 use Rattle.fields.specs.Id.{number_of}
 use Rattle.message.specs.Row.{fields_of}
 use Rattle.book.specs.Applying.{Naming, apply_of, message_in, order_of, repriced}
@@ -9,8 +9,7 @@ use Rattle.book.specs.Lookup.{key_at, place_found}
 use Rattle.book.specs.Tables.{Book, blank, no_order, rep, view}
 use Rattle.book.specs.declared.tables.Order.{Order}
 use Rattle.book_room.specs.Room.{Houses, room_of}
-use Rattle.book_room.specs.declared.adding.Put.{Put}
-use Rattle.book_room.specs.declared.adding.Put.TheVariants as put
+use Rattle.book_room.specs.declared.adding.Placed.{Placed}
 use Rattle.book_room.specs.declared.changing.Name.{Name}
 use Rattle.book_room.specs.declared.changing.Act.{Act}
 use Rattle.book_room.specs.declared.changing.Act.TheVariants as change
@@ -21,14 +20,14 @@ after b number s = rep (apply_of (view b) number s)
 
 -- ---- an Add
 
-abbrev pub orders_put : Put → List ℕ → List Order → List Order
-orders_put (put.At place key) s os = set os place (order_of (fields_of 21 s))
-orders_put put.Nothing s os = os
+abbrev pub orders_put : Option Placed → List ℕ → List Order → List Order
+orders_put (Some placed) s os = set os placed.place (order_of (fields_of 21 s))
+orders_put None s os = os
 
-pub record Added (room : List ℕ) (next end : ℕ) (b : Book) (number : ℕ) (s : List ℕ) (r : Put) : Type 0 where
+pub record Added (room : List ℕ) (next end : ℕ) (b : Book) (number : ℕ) (s : List ℕ) (r : Option Placed) : Type 0 where
   pub is : room ≡ room_of next end (after b number s)
   pub orders : (after b number s).orders ≡ orders_put r s b.orders
-  pub fits : (place key : ℕ) → r ≡ put.At place key → (place < 256) × Naming 55 s key
+  pub fits : (placed : Placed) → r ≡ Some placed → (placed.place < 256) × Naming 55 s placed.key
 
 -- ---- a message that names an order
 

@@ -9,14 +9,13 @@ use crate::finding::found;
 use crate::marking::mark;
 use crate::room::{INDEX, KEYS, LIVE, SYMBOLS};
 use book::deciding::Effect;
-use book::lookup::Found;
 use book_deciding::reading::key_at;
 
 // Where in the session's table the order goes, and its id's value.
 #[derive(Clone, Copy)]
-pub enum Put {
-    At(usize, u64),
-    Nothing,
+pub struct Placed {
+    pub place: usize,
+    pub key: u64,
 }
 
 // A key comes, behind the last one.
@@ -29,7 +28,7 @@ fn enter(room: &mut [u64], live: usize, key: u64)
     book_index::put(&mut room[INDEX..SYMBOLS], live, key);
 }
 
-pub fn add(room: &mut [u64], bytes: &[u8], number: u64) -> Put
+pub fn add(room: &mut [u64], bytes: &[u8], number: u64) -> Option<Placed>
     requires bytes_value { type_in bytes.now ≡ 21 }
     requires by_index { (next end : ℕ) × (b : Book) × Houses room.old next end b number bytes.now }
     ensures { (next end : ℕ) (b : Book) → Houses room.old next end b number bytes.now → Added room.new next end b number bytes.now result }
@@ -40,11 +39,11 @@ pub fn add(room: &mut [u64], bytes: &[u8], number: u64) -> Put
     match book_deciding::add(bytes, key, order, live) {
         Effect::Fault(reason) => {
             mark(room, number, reason);
-            Put::Nothing
+            None
         }
         _ => {
             enter(room, live, key);
-            Put::At(live, key)
+            Some(Placed { place: live, key })
         }
     }
 }

@@ -11,14 +11,13 @@ use crate::finding::found;
 use crate::marking::mark;
 use crate::room::{INDEX, KEYS, LIVE, SYMBOLS};
 use book::deciding::Effect;
-use book::lookup::Found;
 use book_deciding::reading::key_at;
 
 // The value of the id that a message names, and where that order is live.
 #[derive(Clone, Copy)]
 pub struct Name {
     pub key: u64,
-    pub order: Found,
+    pub order: Option<usize>,
 }
 
 // What is to be done in the session's table: the order at a place has these shares and this price; the

@@ -13,19 +13,19 @@ use crate::marking::mark;
 use crate::room::{BACKS, CODE, FRONTS, HELD, ROW, ROWS, SYMBOLS};
 use crate::unlisted::{count_apart, rule_in};
 use book::deciding::Effect;
-use book::lookup::{Found, back, front};
+use book::lookup::{back, front};
 use book::tables::Inside;
 use book_deciding::reading::inside_of;
 
 // Where the inside that a message tells of is held; a Top of Book alone tells of one.
-fn told(room: &[u64], bytes: &[u8]) -> Found
+fn told(room: &[u64], bytes: &[u8]) -> Option<usize>
     requires whole { Whole bytes.now }
     requires by_index { (next end : ℕ) × (b : Book) × Lies room.now next end b }
     ensures { (next end : ℕ) (b : Book) → Lies room.now next end b → result ≡ symbol_at (topic_of (message_in bytes.now)) (take b.held b.fronts) (take b.held b.backs) }
 {
     let kind = wire::u8_at(bytes, 2);
     if kind != 26 {
-        return Found::Nothing;
+        return None;
     }
     let told = inside_of(bytes);
     let symbol = told.symbol;

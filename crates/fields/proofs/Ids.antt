@@ -1,5 +1,5 @@
 -- Laws of an id's rule, value and answer.
-use Rattle.std.proofs.Common.{◌≡◌, ℕ, zero, suc, ◌+◌, ◌*◌, ◌^◌, ◌<◌, ◌≤◌, Bool, true, false, cond, ◌≢◌, List, get_or, take, sym, refl, ap, ◌∙◌, ap₂, le_refl, mul_comm, pow-suc, arith, lit<, get_or-take, ne_eqb}
+use Rattle.std.proofs.Common.{◌≡◌, ℕ, zero, suc, ◌+◌, ◌*◌, ◌^◌, ◌<◌, ◌≤◌, Bool, true, false, cond, ◌≢◌, List, get_or, take, sym, refl, ap, ◌∙◌, ap₂, le_refl, mul_comm, pow-suc, arith, lit<, get_or-take, ne_eqb, Ok, Err, Result, is_ok}
 use native.Mathlib.Nat.{le_of_suc-le}
 use lib.Arith.{digits_lt}
 use Rattle.refusals.specs.declared.Refusal.{Refusal}
@@ -71,9 +71,9 @@ pub answer_none : (id : List ℕ) {n : ℕ} → n ≡ number_of id → n ≡ no_
 unfolding number_of good_id
 answer_none id is none = sym (answer_bad id (read_none 12 id is none))
 
-pub answer_some : (id : List ℕ) {n : ℕ} → n ≡ number_of id → n ≢ no_value → Value n ≡ id_answer id
+pub answer_some : (id : List ℕ) {n : ℕ} → n ≡ number_of id → n ≢ no_value → Ok n ≡ id_answer id
 unfolding number_of good_id
-answer_some id is some = ap Value (read_some 12 id is some).1 ∙ sym (answer_good id (read_some 12 id is some).0)
+answer_some id is some = ap Ok (read_some 12 id is some).1 ∙ sym (answer_good id (read_some 12 id is some).0)
 
 value_cases : (id : List ℕ) (b : Bool) → good_id id ≡ b → is_value (cond b (value_of 12 id) no_value) ≡ b
 unfolding good_id
@@ -87,16 +87,11 @@ pub value_good : (id : List ℕ) {number : ℕ} → number ≡ number_of id → 
 unfolding number_of
 value_good id is = ap is_value is ∙ value_cases id (good_id id) refl
 
--- whether an answer is a value
-abbrev pub accepted : Result ℕ Refusal → Bool
-accepted (Ok v) = true
-accepted (Refused n) = false
-
-accepted_cond : (b : Bool) (v n : ℕ) → accepted (cond b (Ok v) (Refused n)) ≡ b
-accepted_cond true v n = refl
-accepted_cond false v n = refl
+accepted : (b : Bool) (v : ℕ) → is_ok (cond b (Ok v) (Err BadQuestion)) ≡ b
+accepted true v = refl
+accepted false v = refl
 
 -- the answer is a value exactly where the id is good
-pub accepted_good : (id : List ℕ) {answer case : Result ℕ Refusal} → answer ≡ id_answer id → answer ≡ case → accepted case ≡ good_id id
+pub accepted_good : (id : List ℕ) {answer : Result ℕ Refusal} → answer ≡ id_answer id → is_ok answer ≡ good_id id
 unfolding id_answer
-accepted_good id is found = ap accepted (sym found ∙ is) ∙ accepted_cond (good_id id) (value_of 12 id) 12
+accepted_good id is = ap is_ok is ∙ accepted (good_id id) (value_of 12 id)

@@ -4,4 +4,5 @@ pub mod Reading
 pub mod Row
 pub mod Rules
 pub mod Table
+pub mod Types
 pub mod Whole

@@ -1,6 +1,6 @@
 -- Document 01, "A fixed table gives the payload size by type".
 -- Assumes nothing.
-use Rattle.std.specs.Prelude.{Bool, not, ◌&&◌, List, [], ◌∷◌, ℕ, zero, suc, ◌+◌, eqb, ltb}
+use Rattle.std.specs.Prelude.{Bool, not, ◌&&◌, cond, List, [], ◌∷◌, ℕ, zero, suc, ◌+◌, eqb, ltb, Option, Some, None}
 use Rattle.wire.specs.Choice.{listed_at}
 
 -- type and payload, as document 01 lists them
@@ -11,6 +11,10 @@ payloads =
 -- the payload that a type needs; 255, more than any, says that the type is not listed
 unfoldable pub payload_of : ℕ → ℕ
 payload_of type = listed_at type payloads 255
+
+-- the same of a type that may be listed
+abbrev pub payload_listed : ℕ → Option ℕ
+payload_listed type = cond (eqb (payload_of type) 255) None (Some (payload_of type))
 
 -- n bytes are fewer than the 3 header bytes and a payload; of an unlisted type nothing is asked
 abbrev pub below : ℕ → ℕ → Bool

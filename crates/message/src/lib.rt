@@ -6,11 +6,11 @@
 // type and `message_rules` tests them, for reading and for the tables.
 #![tactic(auto)]
 
-mod answer;
 mod kinds;
 pub mod layouts;
 pub mod table;
+mod types;
 
-pub use answer::{Reading, Verdict};
 pub use kinds::{Body, Message, Terms};
 pub use table::{HEADER, LONGEST};
+pub use types::{Kind, NoKind};

@@ -1,6 +1,6 @@
 // The payload size by type.
 ghost use Rattle.std.specs.Prelude.{◌≡◌};
-ghost use Rattle.message.specs.Table.{below, payload_of, payload_table, too_short};
+ghost use Rattle.message.specs.Table.{payload_listed, payload_table, too_short};
 
 // A message's header, which is the shortest message, and the longest message, in bytes.
 pub const HEADER: usize = 3;
@@ -15,7 +15,7 @@ pub type Payloads = [u8; TYPES];
 // What the table has for a type that is not listed.
 const UNLISTED: u8 = 255;
 
-const PAYLOAD: Payloads = [
+pub(crate) const PAYLOAD: Payloads = [
     255, 255, 255, 255, 255, 255, 255, 255, 255, 33, 255, 13, 17, 255, 255, 255, 255, 255, 255,
     255, 9, 52, 32, 18, 34, 42, 43, 47, 0, 255, 255, 255,
 ];
@@ -27,16 +27,20 @@ pub fn sizes() -> Payloads
     PAYLOAD
 }
 
-// A part: the payload that a type needs.
-pub fn payload(sizes: &Payloads, kind: u8) -> u8
+// A part: the payload that a listed type needs.
+pub fn payload(sizes: &Payloads, kind: u8) -> Option<u8>
     requires { sizes.now ≡ payload_table }
-    ensures { result ≡ payload_of kind }
+    ensures { result ≡ payload_listed kind }
 {
     let at = kind as usize;
     if TYPES <= at {
-        return UNLISTED;
+        return None;
     }
-    sizes[at]
+    let needed = sizes[at];
+    if needed == UNLISTED {
+        return None;
+    }
+    Some(needed)
 }
 
 // A part: a message of n bytes is of a listed type and shorter than its layout.
@@ -44,14 +48,8 @@ pub fn too_short(sizes: &Payloads, kind: u8, n: usize) -> bool
     requires { sizes.now ≡ payload_table }
     ensures { result ≡ too_short kind n }
 {
-    shorter(n, payload(sizes, kind))
-}
-
-fn shorter(n: usize, needed: u8) -> bool
-    ensures { result ≡ below n needed }
-{
-    if needed == UNLISTED {
-        return false;
+    match payload(sizes, kind) {
+        Some(needed) => n < HEADER + (needed as usize),
+        None => false,
     }
-    n < HEADER + (needed as usize)
 }

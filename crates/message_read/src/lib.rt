@@ -2,45 +2,37 @@
 // else the fields (message/specs/Reading).
 #![tactic(auto)]
 
-ghost use Rattle.std.specs.Prelude.{◌≡◌, ℕ};
-ghost use Rattle.message.specs.Reading.{read_of, refused};
+ghost use Rattle.std.specs.Prelude.{◌≡◌};
+ghost use Rattle.message.specs.Reading.{read_of};
 
-use message::{Reading, Verdict, table};
+use message::{Message, table};
+use refusals::Refusal;
 
 pub mod parts;
 
-fn refusal(number: u8) -> Reading
-    ensures { result ≡ refused number }
-{
-    let verdict = Verdict::Refused(number);
-    let message = parts::plain(0);
-    Reading { verdict, message }
-}
-
 // The call: every byte string has its answer.
-pub fn read(s: &[u8]) -> Reading
+pub fn read(s: &[u8]) -> Result<Message, Refusal>
     ensures { result ≡ read_of s.now }
 {
     let n = s.len();
     if n < message::HEADER {
-        return refusal(7);
+        return Err(Refusal::BadMessage);
     }
     if message::LONGEST < n {
-        return refusal(7);
+        return Err(Refusal::BadMessage);
     }
     let size = wire::u16_at(s, 0);
     if size as usize != n {
-        return refusal(7);
+        return Err(Refusal::BadMessage);
     }
     let kind = wire::u8_at(s, 2);
     let sizes = table::sizes();
     if table::too_short(&sizes, kind, n) {
-        return refusal(7);
+        return Err(Refusal::BadMessage);
     }
     let message = parts::fields(s, kind);
     if message_rules::good(message) {
-        let verdict = Verdict::Accepted;
-        return Reading { verdict, message };
+        return Ok(message);
     }
-    refusal(14)
+    Err(Refusal::RuleBroken)
 }

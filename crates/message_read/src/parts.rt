@@ -8,7 +8,7 @@ use message::layouts::{
     AddFields, ExecutionFields, Named, PricedFields, SecurityFields, SpinEndFields,
     SpinStartFields, TopFields, TradeFields, TradingSessionFields, UpdateFields,
 };
-use message::{Body, Message, Terms};
+use message::{Body, Kind, Message, Terms};
 
 // A message of numbers alone.
 fn bare(body: Body) -> Message
@@ -215,18 +215,18 @@ pub fn fields(s: &[u8], kind: u8) -> Message
     requires { too_short kind (length s.now) ≡ false }
     ensures { result ≡ fields_of kind s.now }
 {
-    match kind {
-        9 => of_security(message_layouts::security(s)),
-        11 => of_spin_start(message_layouts::spin_start(s)),
-        12 => of_spin_end(message_layouts::spin_end(s)),
-        20 => of_trading_session(message_layouts::trading_session(s)),
-        21 => of_add(message_layouts::add(s)),
-        22 => of_update(message_layouts::update(s)),
-        23 => of_delete(message_layouts::named(s)),
-        24 => of_execution(message_layouts::execution(s)),
-        25 => of_priced(message_layouts::priced(s)),
-        26 => of_top(message_layouts::top(s)),
-        27 => of_trade(message_layouts::trade(s)),
-        _ => plain(kind),
+    match Kind::try_from(kind) {
+        Ok(Kind::Security) => of_security(message_layouts::security(s)),
+        Ok(Kind::SpinStart) => of_spin_start(message_layouts::spin_start(s)),
+        Ok(Kind::SpinEnd) => of_spin_end(message_layouts::spin_end(s)),
+        Ok(Kind::TradingSession) => of_trading_session(message_layouts::trading_session(s)),
+        Ok(Kind::Add) => of_add(message_layouts::add(s)),
+        Ok(Kind::Update) => of_update(message_layouts::update(s)),
+        Ok(Kind::Delete) => of_delete(message_layouts::named(s)),
+        Ok(Kind::Execution) => of_execution(message_layouts::execution(s)),
+        Ok(Kind::Priced) => of_priced(message_layouts::priced(s)),
+        Ok(Kind::Top) => of_top(message_layouts::top(s)),
+        Ok(Kind::Trade) => of_trade(message_layouts::trade(s)),
+        Ok(Kind::Imbalance) | Err(_) => plain(kind),
     }
 }

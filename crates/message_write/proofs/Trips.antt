@@ -12,13 +12,13 @@ use Rattle.wire.specs.Number.{part, splice, Bytes}
 use Rattle.wire.proofs.Layouts.{length-encode, fits_sized, decode-encode, encode-decode, decode_fits}
 use Rattle.wire.proofs.Place.{part-splice, part-add, part-all}
 use Rattle.message.specs.Layouts.{head, layout_of, size_in, type_in}
-use Rattle.message.specs.Reading.{read_of, accepted}
+use Rattle.message.specs.Reading.{read_of}
 use Rattle.message.specs.Row.{fields_of, message_of, row_of, type_of}
 use Rattle.message.specs.Rules.{good_message}
 use Rattle.message.specs.Table.{below, payload_of, too_short}
 use Rattle.message_write.specs.Writing.{buffer_after, head_row, is_written, message_bytes, message_size, Proper, write_of}
 use Rattle.message.specs.declared.kinds.Message.{Message}
-use Rattle.wire.specs.declared.write.Written.TheVariants.{Count}
+use Rattle.std.proofs.Common.{Ok}
 use Rattle.message_write.proofs.Back.{message_back, row_back, fields_proper}
 use Rattle.message.proofs.Cases.{room}
 use Rattle.message_write.proofs.Opened.{Opened, written_opened}
@@ -56,7 +56,7 @@ module _ (m : Message) (written : is_written m ≡ true) (fits : Fits (layout_of
   fields_there proper = sym (ap (message_of (type_of m)) row_there ∙ message_back m proper written)
 
   -- the bytes of a message read as the message
-  pub bytes_read : Proper m → good_message m ≡ true → read_of (message_bytes m) ≡ accepted m
+  pub bytes_read : Proper m → good_message m ≡ true → read_of (message_bytes m) ≡ Ok m
   unfolding message_size
   bytes_read proper keeps =
       let o = written_opened m written in
@@ -68,7 +68,7 @@ module _ (m : Message) (written : is_written m ≡ true) (fits : Fits (layout_of
 
 -- WRITTEN, THEN READ. For every message that writing accepts: reading the bytes written gives the message back.
 -- Each number of a program's message has its field's width, and each text its length: that is `Fits`.
-pub written_reads : (m : Message) (buf : List ℕ) (at n : ℕ) → Fits (layout_of (type_of m)) (row_of m) → Proper m → write_of m buf at ≡ Count n → read_of (part (buffer_after m buf at) at n) ≡ accepted m
+pub written_reads : (m : Message) (buf : List ℕ) (at n : ℕ) → Fits (layout_of (type_of m)) (row_of m) → Proper m → write_of m buf at ≡ Ok n → read_of (part (buffer_after m buf at) at n) ≡ Ok m
 written_reads m buf at n fits proper e =
     let c = counted m (length buf) at n e in
     let long : length (message_bytes m) ≡ n = length_message m c.written fits ∙ sym c.whole in
@@ -78,7 +78,7 @@ written_reads m buf at n fits proper e =
     ap read_of there ∙ bytes_read m c.written fits proper c.good
 
 -- what was read of a type that is written: its type and its row are those that stand in the bytes
-module _ (s : List ℕ) (m : Message) (read : read_of s ≡ accepted m) (written : is_written m ≡ true) where
+module _ (s : List ℕ) (m : Message) (read : read_of s ≡ Ok m) (written : is_written m ≡ true) where
   facts : Taken s m
   facts = read_taken s m read
 
@@ -122,22 +122,22 @@ module _ (s : List ℕ) (m : Message) (read : read_of s ≡ accepted m) (written
         ∙ part-all s
 
 -- what was read has no text beside those of its kind
-pub read_proper : (s : List ℕ) (m : Message) → read_of s ≡ accepted m → Proper m
+pub read_proper : (s : List ℕ) (m : Message) → read_of s ≡ Ok m → Proper m
 read_proper s m read = subst Proper (read_taken s m read).fields (fields_proper (type_in s) s)
 
 -- bytes s that are written again: the message's own, and at every place where they fit the count and s there
 pub record WritesBack (s : List ℕ) (m : Message) : Type 0 where
   pub same : message_bytes m ≡ s
-  pub answer : (buf : List ℕ) (at : ℕ) → at + length s ≤ length buf → write_of m buf at ≡ Count (length s)
+  pub answer : (buf : List ℕ) (at : ℕ) → at + length s ≤ length buf → write_of m buf at ≡ Ok (length s)
   pub buffer : (buf : List ℕ) (at : ℕ) → at + length s ≤ length buf → buffer_after m buf at ≡ splice buf at s
 
 -- READ, THEN WRITTEN. For every byte string that reading accepts, of exactly its type's size and of a type that is
 -- written: writing what was read gives those bytes, the reserved, the unchecked and the last two of an id among them.
-pub read_writes : (s : List ℕ) (m : Message) → Bytes s → read_of s ≡ accepted m → is_written m ≡ true → length s ≡ message_size (type_of m) → WritesBack s m
+pub read_writes : (s : List ℕ) (m : Message) → Bytes s → read_of s ≡ Ok m → is_written m ≡ true → length s ≡ message_size (type_of m) → WritesBack s m
 read_writes s m bytes read written exactly =
     let same = bytes_back s m read written bytes exactly in
-    let answer : (buf : List ℕ) (at : ℕ) → at + length s ≤ length buf → write_of m buf at ≡ Count (length s) =
-    λ buf at h. accepts m (length buf) at written (read_taken s m read).good (subst (λ (n : ℕ). at + n ≤ length buf) exactly h) ∙ ap Count (sym exactly) in
+    let answer : (buf : List ℕ) (at : ℕ) → at + length s ≤ length buf → write_of m buf at ≡ Ok (length s) =
+    λ buf at h. accepts m (length buf) at written (read_taken s m read).good (subst (λ (n : ℕ). at + n ≤ length buf) exactly h) ∙ ap Ok (sym exactly) in
     record {
       same = same;
       answer = answer;

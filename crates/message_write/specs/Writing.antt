@@ -1,6 +1,6 @@
 -- Document 01, "Writing puts one message at a place in a buffer".
 -- Assumes nothing.
-use Rattle.std.specs.Prelude.{Bool, true, false, not, cond, List, [], ◌∷◌, ◌++◌, ◌≡◌, ℕ, ◌+◌, ltb, length}
+use Rattle.std.specs.Prelude.{Bool, true, false, not, cond, List, [], ◌∷◌, ◌++◌, ◌≡◌, ℕ, ◌+◌, ltb, length, Result, Ok, Err}
 use Rattle.wire.specs.Choice.{first_of}
 use Rattle.wire.specs.Layout.{Value, number_is, encode, width_of}
 use Rattle.wire.specs.Number.{splice}
@@ -11,8 +11,8 @@ use Rattle.message.specs.Table.{payload_of}
 use Rattle.message.specs.declared.kinds.Body.{Body}
 use Rattle.message.specs.declared.kinds.Body.TheVariants.{Security, SpinStart, SpinEnd, TradingSession, Add, Update, Delete, Execution, Top, Trade, Other}
 use Rattle.message.specs.declared.kinds.Message.{Message}
-use Rattle.wire.specs.declared.write.Written.{Written}
-use Rattle.wire.specs.declared.write.Written.TheVariants.{Count, Refused}
+use Rattle.refusals.specs.declared.Refusal.{Refusal}
+use Rattle.refusals.specs.declared.Refusal.TheVariants.{NoRoom, RuleBroken}
 
 -- the types that are written, 9, 11, 12 and 20 to 27, are those whose messages have fields; of 28 and unlisted types
 -- there is the type alone
@@ -40,22 +40,22 @@ unfoldable pub message_bytes : Message → List ℕ
 message_bytes m = encode head (head_row (type_of m)) ++ encode (layout_of (type_of m)) (row_of m)
 
 -- what writing answers for n bytes of buffer, the first test that applies deciding: 14, then 11, else the count
-unfoldable pub answer_of : Message → ℕ → ℕ → Written
+unfoldable pub answer_of : Message → ℕ → ℕ → Result ℕ Refusal
 answer_of m n at =
     first_of
-    ((not (is_written m), Refused 14)
-    ∷ (not (good_message m), Refused 14)
-    ∷ (ltb n (at + message_size (type_of m)), Refused 11)
+    ((not (is_written m), Err RuleBroken)
+    ∷ (not (good_message m), Err RuleBroken)
+    ∷ (ltb n (at + message_size (type_of m)), Err NoRoom)
     ∷ [])
-    (Count (message_size (type_of m)))
+    (Ok (message_size (type_of m)))
 
-abbrev pub write_of : Message → List ℕ → ℕ → Written
+abbrev pub write_of : Message → List ℕ → ℕ → Result ℕ Refusal
 write_of m buf at = answer_of m (length buf) at
 
 -- the buffer after an answer: a refusal leaves every byte, a count all but the message's own
-abbrev pub buffer_by : Written → Message → List ℕ → ℕ → List ℕ
-buffer_by (Count n) m buf at = splice buf at (message_bytes m)
-buffer_by (Refused number) m buf at = buf
+abbrev pub buffer_by : Result ℕ Refusal → Message → List ℕ → ℕ → List ℕ
+buffer_by (Ok n) m buf at = splice buf at (message_bytes m)
+buffer_by (Err refusal) m buf at = buf
 
 unfoldable pub buffer_after : Message → List ℕ → ℕ → List ℕ
 buffer_after m buf at = buffer_by (write_of m buf at) m buf at

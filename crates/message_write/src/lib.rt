@@ -9,4 +9,3 @@
 mod place;
 
 pub use place::write;
-pub use wire::Written;

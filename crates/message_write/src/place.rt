@@ -3,74 +3,65 @@ ghost use Rattle.std.specs.Prelude.{[], ◌∷◌, ◌≡◌, ◌+◌, ◌≤◌
 ghost use Rattle.wire.specs.Layout.{number_is, put_row, width_of};
 ghost use Rattle.message.specs.Layouts as layouts;
 ghost use Rattle.message.specs.Row.{type_of_terms};
+ghost use Rattle.message.specs.Types.{type_number, type_or_none};
 ghost use Rattle.message_write.specs.Writing.{answer_of, buffer_after, message_size, write_of, written_type};
 
-use message::{Body, Message, Terms, table};
+use message::{Body, Kind, Message, Terms};
 use message_put::put;
-use wire::Written;
+use refusals::Refusal;
 
-fn kind_of_terms(terms: Terms) -> u8
-    ensures { result ≡ type_of_terms terms }
+fn kind_of_terms(terms: Terms) -> Kind
+    ensures { type_number result ≡ type_of_terms terms }
 {
     match terms {
-        Terms::Published => 24,
-        Terms::Own(_) => 25,
+        Terms::Published => Kind::Execution,
+        Terms::Own(_) => Kind::Priced,
     }
 }
 
-// The type that a message is written with; 0 if it is not written.
-fn kind_of(message: Message) -> u8
-    ensures { result ≡ written_type message }
+// The type that a message is written with, if it is written.
+fn kind_of(message: Message) -> Option<Kind>
+    ensures { type_or_none result ≡ written_type message }
 {
     let body = message.body;
     match body {
-        Body::Security { .. } => 9,
-        Body::SpinStart { .. } => 11,
-        Body::SpinEnd { .. } => 12,
-        Body::TradingSession { .. } => 20,
-        Body::Add { .. } => 21,
-        Body::Update { .. } => 22,
-        Body::Delete { .. } => 23,
-        Body::Execution { terms, .. } => kind_of_terms(terms),
-        Body::Top { .. } => 26,
-        Body::Trade { .. } => 27,
-        Body::Other(_) => 0,
+        Body::Security { .. } => Some(Kind::Security),
+        Body::SpinStart { .. } => Some(Kind::SpinStart),
+        Body::SpinEnd { .. } => Some(Kind::SpinEnd),
+        Body::TradingSession { .. } => Some(Kind::TradingSession),
+        Body::Add { .. } => Some(Kind::Add),
+        Body::Update { .. } => Some(Kind::Update),
+        Body::Delete { .. } => Some(Kind::Delete),
+        Body::Execution { terms, .. } => Some(kind_of_terms(terms)),
+        Body::Top { .. } => Some(Kind::Top),
+        Body::Trade { .. } => Some(Kind::Trade),
+        Body::Other(_) => None,
     }
 }
 
-fn whole(needed: u8) -> usize
-    ensures { result ≡ 3 + needed }
+fn size_of(kind: Kind) -> usize
+    ensures { result ≡ message_size (type_number kind) }
 {
-    (needed as usize) + 3
+    message::HEADER + kind.payload() as usize
 }
 
-// The size of a message of a type, its 3 header bytes counted.
-fn size_of(kind: u8) -> usize
-    ensures { result ≡ message_size kind }
-{
-    let sizes = table::sizes();
-    whole(table::payload(&sizes, kind))
-}
-
-// What writing answers for n bytes of buffer. The place may be any number: no sum is made with it.
-fn judge(message: Message, kind: u8, n: usize, at: usize) -> Written
-    requires { kind ≡ written_type message }
+// What writing a message of a type that is written answers for n bytes of buffer. The place may be any number: no sum
+// is made with it.
+fn judge(message: Message, kind: Kind, n: usize, at: usize) -> Result<usize, Refusal>
+    requires { type_number kind ≡ written_type message }
     ensures { result ≡ answer_of message n at }
 {
-    if kind == 0 {
-        return Written::Refused(14);
-    }
     if message_rules::good(message) {
         let size = size_of(kind);
         if n < at {
-            return Written::Refused(11);
+            return Err(Refusal::NoRoom);
         }
         if n - at < size {
-            return Written::Refused(11);
+            return Err(Refusal::NoRoom);
         }
-        return Written::Count(size);
+        return Ok(size);
     }
-    Written::Refused(14)
+    Err(Refusal::RuleBroken)
 }
 
 // MessageSize and MessageType.
@@ -84,16 +75,15 @@ fn head(buf: &mut [u8], at: usize, size: u16, kind: u8)
 
 // The call: every message, every buffer and every place have their answer. A text that the kind has
 // not is not looked at, and `Body::Other` is not written, whatever type it names.
-pub fn write(message: Message, buf: &mut [u8], at: usize) -> Written
+pub fn write(message: Message, buf: &mut [u8], at: usize) -> Result<usize, Refusal>
     ensures answer { result ≡ write_of message buf.old at }
     ensures buffer { buf.new ≡ buffer_after message buf.old at }
 {
-    let kind = kind_of(message);
-    let answer = judge(message, kind, buf.len(), at);
-    let Written::Count(size) = answer else {
-        return answer;
+    let Some(kind) = kind_of(message) else {
+        return Err(Refusal::RuleBroken);
     };
-    head(buf, at, size as u16, kind);
-    put::fields(message, buf, at + 3);
-    answer
+    let size = judge(message, kind, buf.len(), at)?;
+    head(buf, at, size as u16, kind.number());
+    put::fields(message, buf, at + message::HEADER);
+    Ok(size)
 }

@@ -3,6 +3,7 @@
 use mathlib.Core.Bool.{Bool, true, false, not}
 use mathlib.Core.Path.{◌≡◌, ap, ◌∙◌, sym}
 use mathlib.Core.List.{List}
+use Rattle.std.proofs.Common.{None, Some}
 use Prim.Native.Nat.{ℕ, ◌+◌, ◌-◌, ◌≤◌, ◌<◌}
 use borrow.Author.Tests.{lt-ltb, le-ltb}
 use lib.ListN.{length}
@@ -10,7 +11,7 @@ use Rattle.wire.specs.Number.{num, part}
 use Rattle.records.specs.Records.{marked_at, opening_of, size_at, unmarked_at}
 
 module _ (s : List ℕ) (at : ℕ) where
-  pub no_head : length s - at < 4 → 0 ≡ size_at s at
+  pub no_head : length s - at < 4 → None ≡ size_at s at
   unfolding size_at
   no_head few = simp (lt-ltb _ _ few)
 
@@ -23,7 +24,7 @@ module _ (s : List ℕ) (at : ℕ) where
     unfolding unmarked_at
     unmarked_by = simp (le-ltb _ _ head) (ap not is_m)
 
-    pub no_mark : not m ≡ true → 0 ≡ size_at s at
+    pub no_mark : not m ≡ true → None ≡ size_at s at
     unfolding size_at
     no_mark none =
         let unmarked : not (marked_at s at) ≡ true = sym (ap not is_m) ∙ none in
@@ -33,13 +34,13 @@ module _ (s : List ℕ) (at : ℕ) where
       marked : not (marked_at s at) ≡ false
       marked = sym (ap not is_m) ∙ some
 
-      pub cut_short : length s - at - 4 < n → 0 ≡ size_at s at
+      pub cut_short : length s - at - 4 < n → None ≡ size_at s at
       unfolding size_at
       cut_short past = simp (le-ltb _ _ head, marked, lt-ltb _ _ (rw is-n at past))
 
-      pub whole : n ≤ length s - at - 4 → 4 + n ≡ size_at s at
+      pub whole : n ≤ length s - at - 4 → Some (4 + n) ≡ size_at s at
       unfolding size_at
-      whole fits = simp (le-ltb _ _ head, marked, le-ltb _ _ (rw is-n at fits)) (ap (λ (k : ℕ). 4 + k) is-n)
+      whole fits = simp (le-ltb _ _ head, marked, le-ltb _ _ (rw is-n at fits)) (ap (λ (k : ℕ). Some (4 + k)) is-n)
 
 module _ (packet : List ℕ) where
   pub opens_at_none : length packet < 12 → 0 ≡ opening_of packet

@@ -1,16 +1,15 @@
 -- Document 01, "Taking a packet": the answer to one packet, the answers to several, and how many messages were applied.
 -- Assumes nothing.
-use Rattle.std.specs.Prelude.{Bool, true, false, cond, List, [], ◌∷◌, ◌++◌, ℕ, ◌-◌, ◌*◌, ◌≤◌, eqb, ltb, length}
+use Rattle.std.specs.Prelude.{Bool, true, false, cond, List, [], ◌∷◌, ◌++◌, ℕ, ◌-◌, ◌*◌, ◌≤◌, ltb, length, Result, Ok, Err}
+use Rattle.refusals.specs.Refusals.{answered}
+use Rattle.refusals.specs.declared.Refusal.{Refusal}
+use Rattle.refusals.specs.declared.Refusal.TheVariants.{NoRoom}
 use Rattle.wire.specs.Number.{splice}
 use Rattle.merge.specs.State.{apply_some, take_all, take_one}
 use Rattle.packet.specs.Header.{decided}
 use Rattle.window_taking.specs.Taking.{take_tests}
 use Rattle.window_taking.specs.Turns.{end_from, packets_in}
 use Rattle.session.specs.Meaning.{Meaning, overnight}
-use Rattle.session.specs.declared.packets.Answer.{Answer}
-use Rattle.session.specs.declared.packets.Answer.TheVariants.{Applied, Refused}
-use Rattle.session.specs.declared.packets.Count.{Count}
-use Rattle.session.specs.declared.packets.Count.TheVariants as count
 
 -- ---- one packet
 
@@ -22,11 +21,8 @@ refusal_of x s = (decided (take_tests x s)).0
 abbrev pub applied_of : Meaning → List ℕ → ℕ
 applied_of x s = (take_one overnight x s).next - x.next
 
-unfoldable pub answered : ℕ → ℕ → Answer
-answered applied refusal = cond (eqb refusal 0) (Applied applied) (Refused refusal)
-
-abbrev pub answer_of : Meaning → List ℕ → Answer
-answer_of x s = answered (applied_of x s) (refusal_of x s)
+abbrev pub answer_of : Meaning → List ℕ → Result ℕ Refusal
+answer_of x s = answered (refusal_of x s) (applied_of x s)
 
 -- ---- applying
 
@@ -55,8 +51,8 @@ rows_of x (s ∷ ss) = row_of x s ++ rows_of (take_one overnight x s) ss
 unfoldable pub burst_of : Meaning → List ℕ → ℕ → ℕ → Meaning
 burst_of x s most n = cond (ltb n (4 * most)) x (take_all overnight x (packets_in most s))
 
-unfoldable pub count_of : List ℕ → ℕ → ℕ → Count
-count_of s most n = cond (ltb n (4 * most)) (count.Refused 11) (count.Packets (length (packets_in most s)))
+unfoldable pub count_of : List ℕ → ℕ → ℕ → Result ℕ Refusal
+count_of s most n = cond (ltb n (4 * most)) (Err NoRoom) (Ok (length (packets_in most s)))
 
 -- how many bytes they are, with their lengths
 unfoldable pub bytes_of : List ℕ → ℕ → ℕ → ℕ
@@ -66,9 +62,9 @@ unfoldable pub answers_after : Meaning → List ℕ → ℕ → List ℕ → Lis
 answers_after x s most answers = cond (ltb (length answers) (4 * most)) answers (splice answers 0 (rows_of x (packets_in most s)))
 
 -- the count, where the answers fit
-abbrev pub count_if : Bool → ℕ → Count
-count_if true n = count.Packets n
-count_if false n = count.Refused 11
+abbrev pub count_if : Bool → ℕ → Result ℕ Refusal
+count_if true n = Ok n
+count_if false n = Err NoRoom
 
 -- what the engine asks for: room for so many answers
 pub record Runs (most n : ℕ) : Type 0 where

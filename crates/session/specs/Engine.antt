@@ -1,8 +1,9 @@
 -- The engine between two turns: what a run is to give, where it is, and what a message at hand leaves to do in the order table.
 -- Assumes nothing.
-use Rattle.std.specs.Prelude.{◌≡◌, Bool, true, false, cond, List, ◌++◌, ℕ, ◌+◌, ◌-◌, ◌*◌, ◌≤◌, ◌<◌, eqb, length, get_or, set}
-use Rattle.std.proofs.Math.Option.{none, some}
+use Rattle.std.specs.Prelude.{◌≡◌, Bool, true, cond, List, ◌++◌, ℕ, ◌+◌, ◌-◌, ◌*◌, ◌≤◌, ◌<◌, eqb, length, get_or, set, Option, None, Some}
+use Rattle.std.proofs.Math.Option.{some}
 use Rattle.wire.specs.Number.{splice}
+use Rattle.refusals.specs.Refusals.{refusal_or_none}
 use Rattle.merge.specs.State.{Packet, apply_up_to, take_all}
 use Rattle.merge.specs.Promise.{Inv}
 use Rattle.message.specs.Layouts.{type_in}
@@ -13,7 +14,6 @@ use Rattle.book.specs.Lookup.{place_found}
 use Rattle.book.specs.Rule.{Sound}
 use Rattle.book.specs.Tables as book
 use Rattle.book.specs.Tables.{Book, Tables, blank, no_order}
-use Rattle.book.specs.declared.lookup.Found.TheVariants as found
 use Rattle.book.specs.declared.tables.Order.{Order}
 use Rattle.book_room.specs.Arms.{Told, after, named_in}
 use Rattle.book_room.specs.Room.{Houses, room_of}
@@ -24,8 +24,10 @@ use Rattle.window_taking.specs.Turns.{answer_if, at_start, end_from, packets_fro
 use Rattle.window_taking.specs.declared.burst.Turn.{Turn}
 use Rattle.session.specs.Meaning.{Held, Meaning, end_in, feed, held, next_in, overnight, rep, view}
 use Rattle.session.specs.Bursts.{row_with, rows_of}
+use Rattle.session.specs.declared.advancing.AtHand.{AtHand}
 use Rattle.session.specs.declared.advancing.Point.{Point}
 use Rattle.session.specs.declared.settling.Outcome.{Outcome}
+use Rattle.session.specs.declared.settling.Outcome.TheVariants.{Moves, Stores}
 use Rattle.session.specs.declared.touching.Touch.{Touch}
 
 -- what the meanings have that an opening, from some tables and at some number, and packets give, also between two messages
@@ -66,29 +68,15 @@ task_of h s single count answers due =
 
 -- a point at which no message is at hand, the first of them, and one at which a message touches an order
 abbrev pub between_of : ℕ → Turn → PacketRest → Point
-between_of next turn rest =
-    record {
-      touches = false;
-      place = 0;
-      name = record { key = 0; order = found.Nothing };
-      here = record { left = 0; from = 0 };
-      size = 0;
-      next = next;
-      turn = turn;
-      rest = rest;
-    }
+between_of next turn rest = record { at_hand = None; next = next; turn = turn; rest = rest }
 
 abbrev pub begin_of : ℕ → ℕ → ℕ → ℕ → Point
 begin_of next end count due = between_of next (at_start next end count) (record { left = 0; from = due })
 
 abbrev pub at_hand_of : Touch → PacketRest → ℕ → ℕ → Turn → PacketRest → Point
-at_hand_of touched here size next turn rest =
+at_hand_of touch here size next turn rest =
     record {
-      touches = true;
-      place = touched.place;
-      name = touched.name;
-      here = here;
-      size = size;
+      at_hand = Some (record { place = touch.place; name = touch.name; here = here; size = size });
       next = next;
       turn = turn;
       rest = rest;
@@ -104,7 +92,7 @@ rest_of single s turn = packets_from single turn.left turn.at s
 
 -- the answers that are to come, from the one at hand on
 abbrev pub rows_from : Turn → Meaning → List (List ℕ) → List ℕ
-rows_from turn z rest = answer_if turn.begun (row_with turn.before turn.refusal z) ++ rows_of z rest
+rows_from turn z rest = answer_if turn.begun (row_with turn.before (refusal_or_none turn.refusal) z) ++ rows_of z rest
 
 -- what is held now holds a meaning, and what is left to do from there gives what the run is to give
 pub record Open (task : Task) (s : List ℕ) (single : Bool) (answers : List ℕ) (os : List Order) (numbers w : List ℕ) (next : ℕ) (turn : Turn) (rest : PacketRest) : Type 0 where
@@ -142,37 +130,37 @@ steps_left point = turns_left point.turn point.next point.rest
 
 -- ---- a message at hand that touches an order
 
-abbrev pub bytes_of : List ℕ → List ℕ → Point → List ℕ
-bytes_of text s point = message_at text s point.here point.size
+abbrev pub bytes_of : List ℕ → List ℕ → AtHand → List ℕ
+bytes_of text s hand = message_at text s hand.here hand.size
 
 -- of an Add all is done but its order put at the place
-pub record Puts (task : Task) (s : List ℕ) (single : Bool) (os : List Order) (room window answers text : List ℕ) (point : Point) : Type 0 where
-  pub naming : Naming 55 (bytes_of text s point) point.name.key
-  pub going : Going task s single (set os point.place (order_of (fields_of 21 (bytes_of text s point)))) room window answers text point
+pub record Puts (task : Task) (s : List ℕ) (single : Bool) (os : List Order) (room window answers text : List ℕ) (point : Point) (hand : AtHand) : Type 0 where
+  pub naming : Naming 55 (bytes_of text s hand) hand.name.key
+  pub going : Going task s single (set os hand.place (order_of (fields_of 21 (bytes_of text s hand)))) room window answers text point
 
 -- of a message that names an order nothing is done: the room holds the tables before it
-pub record Names (task : Task) (s : List ℕ) (single : Bool) (os : List Order) (room window answers text : List ℕ) (point : Point) : Type 0 where
+pub record Names (task : Task) (s : List ℕ) (single : Bool) (os : List Order) (room window answers text : List ℕ) (point : Point) (hand : AtHand) : Type 0 where
   pub tables : Book
   pub number : ℕ
   pub behind : point.next ≡ number + 1
-  pub kind : names (type_in (bytes_of text s point)) ≡ true
-  pub houses : Houses room task.next task.end tables number (bytes_of text s point)
+  pub kind : names (type_in (bytes_of text s hand)) ≡ true
+  pub houses : Houses room task.next task.end tables number (bytes_of text s hand)
   pub orders : os ≡ tables.orders
-  pub named : point.name ≡ named_in tables (bytes_of text s point)
-  pub place_is : point.place ≡ place_found (named_in tables (bytes_of text s point)).order
-  pub going : {os' : List Order} {room' : List ℕ} → os' ≡ (after tables number (bytes_of text s point)).orders
-      → room' ≡ room_of task.next task.end (after tables number (bytes_of text s point))
+  pub named : hand.name ≡ named_in tables (bytes_of text s hand)
+  pub place_is : hand.place ≡ place_found (named_in tables (bytes_of text s hand)).order
+  pub going : {os' : List Order} {room' : List ℕ} → os' ≡ (after tables number (bytes_of text s hand)).orders
+      → room' ≡ room_of task.next task.end (after tables number (bytes_of text s hand))
       → Going task s single os' room' window answers text point
 
-pub record Waits (task : Task) (s : List ℕ) (single : Bool) (os : List Order) (room window answers text : List ℕ) (point : Point) : Type 0 where
-  pub whole : Whole (bytes_of text s point)
-  pub lies : Lies s point.here point.size
-  pub cut : point.size ≤ length text
+pub record Waits (task : Task) (s : List ℕ) (single : Bool) (os : List Order) (room window answers text : List ℕ) (point : Point) (hand : AtHand) : Type 0 where
+  pub whole : Whole (bytes_of text s hand)
+  pub lies : Lies s hand.here hand.size
+  pub cut : hand.size ≤ length text
   pub wide : length text ≡ 128
   pub many : length os ≡ 256
-  pub within : point.place < 256
-  pub puts : type_in (bytes_of text s point) ≡ 21 → Puts task s single os room window answers text point
-  pub names : (type_in (bytes_of text s point) ≡ 21 → ⊥) → Names task s single os room window answers text point
+  pub within : hand.place < 256
+  pub puts : type_in (bytes_of text s hand) ≡ 21 → Puts task s single os room window answers text point hand
+  pub names : (type_in (bytes_of text s hand) ≡ 21 → ⊥) → Names task s single os room window answers text point hand
 
 -- ---- nothing is left to do
 
@@ -187,24 +175,24 @@ pub record Over (task : Task) (s : List ℕ) (single : Bool) (os : List Order) (
 
 -- from a point on, to the next message that touches an order or to the end
 pub record Came (task : Task) (s : List ℕ) (single : Bool) (os : List Order) (room window answers text : List ℕ) (before r : Point) : Type 0 where
-  pub waits : r.touches ≡ true → Waits task s single os room window answers text r
-  pub place : r.touches ≡ true → r.place < 256
-  pub fewer : r.touches ≡ true → steps_left r < steps_left before
-  pub over : r.touches ≡ false → Over task s single os room window answers r
+  pub waits : (hand : AtHand) → r.at_hand ≡ Some hand → Waits task s single os room window answers text r hand
+  pub fewer : (hand : AtHand) → r.at_hand ≡ Some hand → steps_left r < steps_left before
+  pub over : r.at_hand ≡ None → Over task s single os room window answers r
   pub long : length answers ≡ task.space
 
 -- a message is at hand, and the record at its place
-pub record AtHand (task : Task) (s : List ℕ) (single : Bool) (os : List Order) (room window answers text : List ℕ) (point : Point) (order : Order) : Type 0 where
-  pub waits : Waits task s single os room window answers text point
-  pub there : order ≡ get_or os point.place blank
+pub record AtPlace (task : Task) (s : List ℕ) (single : Bool) (os : List Order) (room window answers text : List ℕ) (point : Point) (hand : AtHand) (order : Order) : Type 0 where
+  pub waits : Waits task s single os room window answers text point hand
+  pub there : order ≡ get_or os hand.place blank
 
 -- the table once an outcome is stored at a place
 abbrev pub stored_by : Outcome → ℕ → List Order → List Order
-stored_by r place os = cond r.removes (set (set os place (get_or os r.last blank)) r.last no_order) (set os place r.order)
+stored_by (Moves last) place os = set (set os place (get_or os last blank)) last no_order
+stored_by (Stores order) place os = set os place order
 
-pub record Settled (task : Task) (s : List ℕ) (single : Bool) (os : List Order) (room window answers text : List ℕ) (point : Point) (r : Outcome) : Type 0 where
-  pub last : r.removes ≡ true → r.last < 256
-  pub going : Going task s single (stored_by r point.place os) room window answers text point
+pub record Settled (task : Task) (s : List ℕ) (single : Bool) (os : List Order) (room window answers text : List ℕ) (point : Point) (hand : AtHand) (r : Outcome) : Type 0 where
+  pub last : (last : ℕ) → r ≡ Moves last → last < 256
+  pub going : Going task s single (stored_by r hand.place os) room window answers text point
 
 -- ---- one message, by whether it touches an order
 
@@ -222,7 +210,7 @@ pub record NamedAt (room : List ℕ) (next end : ℕ) (b : Book) (s : List ℕ) 
   pub name : r.name ≡ named_in b s
   pub place_is : r.place ≡ place_found (named_in b s).order
 
-pub record Touched (room : List ℕ) (next end : ℕ) (b : Book) (number : ℕ) (s : List ℕ) (r : Touch) : Type 0 where
-  pub adds : r.touches ≡ true → type_in s ≡ 21 → PutAt room next end b number s r
-  pub names : r.touches ≡ true → (type_in s ≡ 21 → ⊥) → NamedAt room next end b s r
-  pub passes : r.touches ≡ false → Told room next end b number s
+pub record Touched (room : List ℕ) (next end : ℕ) (b : Book) (number : ℕ) (s : List ℕ) (r : Option Touch) : Type 0 where
+  pub adds : (touch : Touch) → r ≡ Some touch → type_in s ≡ 21 → PutAt room next end b number s touch
+  pub names : (touch : Touch) → r ≡ Some touch → (type_in s ≡ 21 → ⊥) → NamedAt room next end b s touch
+  pub passes : r ≡ None → Told room next end b number s

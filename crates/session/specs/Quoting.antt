@@ -1,12 +1,12 @@
 -- The best prices of many symbols and sides: each question is answered as `best_asked` answers it.
 -- Assumes nothing.
-use Rattle.std.specs.Prelude.{cond, List, [], ◌∷◌, ◌++◌, ℕ, zero, suc, ◌*◌, ◌/◌, ltb, length, get_or}
+use Rattle.std.specs.Prelude.{cond, List, [], ◌∷◌, ◌++◌, ℕ, zero, suc, ◌*◌, ◌/◌, ltb, length, get_or, Result, Ok, Err}
+use Rattle.refusals.specs.Refusals.{number_of}
+use Rattle.refusals.specs.declared.Refusal.{Refusal}
 use Rattle.wire.specs.Number.{part, splice}
 use Rattle.book.specs.Asking.{best_asked}
 use Rattle.book.specs.Tables.{Tables}
-use Rattle.book.specs.declared.asking.BestReply.{BestReply}
-use Rattle.book.specs.declared.asking.Reply.{Reply}
-use Rattle.book.specs.declared.asking.Reply.TheVariants as reply
+use Rattle.book.specs.declared.asking.Level.{Level}
 
 -- a question is 15 bytes, a symbol and a side; bytes behind the last whole one are not looked at
 abbrev pub count_in : List ℕ → ℕ
@@ -24,12 +24,10 @@ abbrev pub questions_in : List ℕ → List (List ℕ)
 questions_in asked = questions_from 0 (count_in asked) asked
 
 -- four numbers are a reply: the refusal, 0 where there is none, the price, the sum of shares there and the number of orders
-abbrev pub refusal_in : Reply → ℕ
-refusal_in reply.Known = 0
-refusal_in (reply.Refused number) = number
-
-abbrev pub numbers_of : BestReply → List ℕ
-numbers_of r = refusal_in r.reply ∷ r.level.price ∷ r.level.shares ∷ r.level.orders ∷ []
+-- beside a refusal the other three are 0
+abbrev pub numbers_of : Result Level Refusal → List ℕ
+numbers_of (Ok level) = 0 ∷ level.price ∷ level.shares ∷ level.orders ∷ []
+numbers_of (Err refusal) = number_of refusal ∷ 0 ∷ 0 ∷ 0 ∷ []
 
 abbrev pub quote_of : Tables → List ℕ → List ℕ
 quote_of t question = numbers_of (best_asked t (part question 0 14) (get_or question 14 0))

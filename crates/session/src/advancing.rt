@@ -5,7 +5,6 @@ ghost use Rattle.session.specs.Meaning.{end_in, next_in};
 ghost use Rattle.session.specs.Engine.{at_hand_of, begin_of, between_of, Came, Going, Task};
 
 use crate::touching::{Touch, apply};
-use book::lookup::Found;
 use book_room::changing::Name;
 use book_room::room::{END, NEXT, Room};
 use session_message::PacketRest;
@@ -13,15 +12,19 @@ use window::places::{NUMBERS, PLACE, Window};
 use window_burst::{close, done, follow, start};
 use window_taking::burst::Turn;
 
-// Where a run is. While a message touches an order: the order's place and its name, where the message
-// lies and its size.
+// A message that touches an order: the order's place and its name, where the message lies and its size.
 #[derive(Clone, Copy)]
-pub struct Point {
-    pub touches: bool,
+pub struct AtHand {
     pub place: usize,
     pub name: Name,
     pub here: PacketRest,
     pub size: usize,
+}
+
+// Where a run is, and the message at hand, if one touches an order.
+#[derive(Clone, Copy)]
+pub struct Point {
+    pub at_hand: Option<AtHand>,
     pub next: u64,
     pub turn: Turn,
     pub rest: PacketRest,
@@ -39,14 +42,7 @@ fn between(next: u64, turn: Turn, rest: PacketRest) -> Point
     ensures { result ≡ between_of next turn rest }
 {
     Point {
-        touches: false,
-        place: 0,
-        name: Name {
-            key: 0,
-            order: Found::Nothing,
-        },
-        here: PacketRest { left: 0, from: 0 },
-        size: 0,
+        at_hand: None,
         next,
         turn,
         rest,
@@ -54,22 +50,23 @@ fn between(next: u64, turn: Turn, rest: PacketRest) -> Point
 }
 
 fn at_hand(
-    touched: Touch,
+    touch: Touch,
     here: PacketRest,
     size: usize,
     next: u64,
     turn: Turn,
     rest: PacketRest,
 ) -> Point
-    ensures { result ≡ at_hand_of touched here size next turn rest }
+    ensures { result ≡ at_hand_of touch here size next turn rest }
 {
-    let name = touched.name;
-    Point {
-        touches: true,
-        place: touched.place,
-        name,
+    let at_hand = Some(AtHand {
+        place: touch.place,
+        name: touch.name,
         here,
         size,
+    });
+    Point {
+        at_hand,
         next,
         turn,
         rest,
@@ -125,8 +122,8 @@ pub fn advance(
             let bytes = session_message::message(text, packets, here, size);
             let touched = apply(room, bytes, next);
             next += 1;
-            if touched.touches {
-                return at_hand(touched, here, size, next, turn, rest);
+            if let Some(touch) = touched {
+                return at_hand(touch, here, size, next, turn, rest);
             }
         }
     }

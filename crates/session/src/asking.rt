@@ -10,20 +10,18 @@ ghost use Rattle.session.specs.Asking.{gap_from, gaps_of, line_in, lowest_number
 ghost use Rattle.session.specs.declared.state.Session.{Session as Table};
 
 use crate::state::Session;
-use book::asking::{BestReply, InsideReply, OrderReply, Reply, no_inside_for, no_order_for};
-use book::lookup::Found;
-use book::tables::{Faults, Inside, OpeningRule};
+use book::asking::Level;
+use book::tables::{Faults, Inside, OpeningRule, Order};
 use book_room::finding::{found, held_at};
 use book_room::room::{
     APART, BACKS, CODE, COUNT, END, FAULT, FRONTS, LIVE, NEXT, REASON, ROW, ROWS, Room,
 };
 use book_room::unlisted::rule_in;
-use fields::id::{IdValue, value};
+use fields::id::value;
 use fields_rules::good_symbol;
-use window::asking::Asked;
+use refusals::Refusal;
 use window::missing::{Gap, first_number};
 use window::places::{NUMBERS, Window};
-use wire::{least, most};
 
 // The lowest number not applied.
 pub fn next(room: &Room) -> u64
@@ -86,22 +84,23 @@ pub fn unlisted(room: &Room) -> u64
     room[APART]
 }
 
-pub fn order(session: Session, room: &Room, id: [u8; 14]) -> OrderReply
+pub fn order(session: Session, room: &Room, id: [u8; 14]) -> Result<Order, Refusal>
     requires { (window : List ℕ) × Ruled (held session room.now window) }
     ensures { result ≡ order_asked (tables_in session room.now) id }
 {
-    let IdValue::Value(key) = value(id) else {
-        return no_order_for(12);
+    let key = value(id)?;
+    let Some(place) = found(room, key) else {
+        return Err(Refusal::NotThere);
     };
-    let Found::At(place) = found(room, key) else {
-        return no_order_for(13);
-    };
-    let reply = Reply::Known;
-    let order = session.orders[place];
-    OrderReply { reply, order }
+    Ok(session.orders[place])
 }
 
-pub fn best(session: Session, room: &Room, symbol: [u8; 14], side: u8) -> BestReply
+pub fn best(
+    session: Session,
+    room: &Room,
+    symbol: [u8; 14],
+    side: u8,
+) -> Result<Level, Refusal>
     requires { (window : List ℕ) × Ruled (held session room.now window) }
     ensures { result ≡ best_asked (tables_in session room.now) symbol side }
 {
@@ -137,23 +136,21 @@ fn inside_at(room: &Room, place: usize) -> Inside
     }
 }
 
-pub fn inside(room: &Room, symbol: [u8; 14]) -> InsideReply
+pub fn inside(room: &Room, symbol: [u8; 14]) -> Result<Inside, Refusal>
     requires { (session : Table) × (window : List ℕ) × Ruled (held session room.now window) }
     ensures { result ≡ inside_for (insides_in room.now) symbol }
 {
     if !good_symbol(symbol) {
-        return no_inside_for(12);
+        return Err(Refusal::BadQuestion);
     }
-    let Found::At(place) = held_at(room, symbol) else {
-        return no_inside_for(13);
+    let Some(place) = held_at(room, symbol) else {
+        return Err(Refusal::NotThere);
     };
-    let reply = Reply::Known;
-    let inside = inside_at(room, place);
-    InsideReply { reply, inside }
+    Ok(inside_at(room, place))
 }
 
 // One request for each run of missing numbers.
-pub fn requests(room: &Room, window: &Window, buf: &mut [u8]) -> Asked
+pub fn requests(room: &Room, window: &Window, buf: &mut [u8]) -> Result<usize, Refusal>
     requires { (session : Table) × Ruled (held session room.now window.now) }
     ensures answer { result ≡ asked_of (gaps_of (line_in room.now window.now)) (length buf.old) }
     ensures buffer { buf.new ≡ buffer_after (gaps_of (line_in room.now window.now)) buf.old }
@@ -167,7 +164,7 @@ pub fn gap(room: &Room, window: &Window, from: u64) -> Gap
     ensures { result ≡ gap_from (line_in room.now window.now) from }
 {
     let next = room[NEXT];
-    let limit = least(room[END], next + NUMBERS);
-    let first = least(most(from, next), limit);
+    let limit = room[END].min(next + NUMBERS);
+    let first = from.max(next).min(limit);
     window::missing::run(window, first, limit)
 }

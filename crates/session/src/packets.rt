@@ -2,32 +2,20 @@
 ghost use Rattle.std.specs.Prelude.{◌≡◌, cond, ◌≤◌, min, length};
 ghost use Rattle.merge.specs.State.{apply_some, take_one};
 ghost use Rattle.session.specs.Meaning.{held, overnight, rep, view, Ruled};
-ghost use Rattle.session.specs.Bursts.{applied_by, answer_of, burst_of, bytes_of, count_if, count_of, answers_after, answered};
+ghost use Rattle.refusals.specs.Refusals.{answered};
+ghost use Rattle.session.specs.Bursts.{applied_by, answer_of, burst_of, bytes_of, count_if, count_of, answers_after};
 
 use crate::running::run;
 use crate::state::Session;
 use book_room::room::{NEXT, Room};
+use refusals::Refusal;
 use window::places::{NUMBERS, Window};
-use wire::least;
-
-#[derive(Clone, Copy)]
-pub enum Answer {
-    // How many messages were applied.
-    Applied(u64),
-    Refused(u8),
-}
 
 #[derive(Clone, Copy)]
 pub struct Taken {
     pub session: Session,
-    pub answer: Answer,
-}
-
-#[derive(Clone, Copy)]
-pub enum Count {
-    // How many packets were taken.
-    Packets(usize),
-    Refused(u8),
+    // How many messages were applied.
+    pub answer: Result<u64, Refusal>,
 }
 
 #[derive(Clone, Copy)]
@@ -40,19 +28,21 @@ pub struct AppliedSome {
 #[derive(Clone, Copy)]
 pub struct TakenAll {
     pub session: Session,
-    pub count: Count,
+    // How many packets were taken.
+    pub count: Result<usize, Refusal>,
     // How many bytes they are, with their lengths: the next packet's begin behind them.
     pub bytes: usize,
 }
 
-fn answer_by(applied: u64, refusal: u64) -> Answer
-    requires { refusal ≤ 255 }
-    ensures { result ≡ answered applied refusal }
+// By the numbers that the run answered: how many were applied, and the refusal or 0.
+fn answer_by(applied: u64, refusal: u64) -> Result<u64, Refusal>
+    requires { refusal ≤ 14 }
+    ensures { result ≡ answered refusal applied }
 {
-    if refusal == 0 {
-        return Answer::Applied(applied);
+    match Refusal::try_from(refusal) {
+        Ok(refusal) => Err(refusal),
+        Err(_) => Ok(applied),
     }
-    Answer::Refused(refusal as u8)
 }
 
 // One packet: the lent bytes are the whole of it.
@@ -79,13 +69,14 @@ pub fn due_of(fits: bool, count: usize) -> usize
     if fits { count } else { 0 }
 }
 
-pub fn count_of(fits: bool, count: usize) -> Count
+pub fn count_of(fits: bool, count: usize) -> Result<usize, Refusal>
     ensures { result ≡ count_if fits count }
 {
     if fits {
-        return Count::Packets(count);
+        Ok(count)
+    } else {
+        Err(Refusal::NoRoom)
     }
-    Count::Refused(11)
 }
 
 // The first packets of the lent bytes, each behind its length of 2 bytes: as many as the host says, or
@@ -121,7 +112,7 @@ pub fn burst(
 pub fn most_due(count: u64) -> usize
     ensures { result ≡ min count 256 }
 {
-    least(count, NUMBERS) as usize
+    count.min(NUMBERS) as usize
 }
 
 // Up to a count of the messages that wait from next on, in their order.

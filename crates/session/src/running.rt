@@ -7,7 +7,7 @@ ghost use Rattle.window_taking.specs.Turns.{end_from, packets_from};
 ghost use Rattle.session.specs.Bursts.{rows_of, Runs};
 
 use crate::advancing::{Ended, Point, advance, begin};
-use crate::settling::settle;
+use crate::settling::{Outcome, settle};
 use crate::state::Session;
 use book::tables::no_order;
 use book_room::room::Room;
@@ -56,24 +56,22 @@ pub fn run(
     let mut point = begin(room, count, due);
     loop {
         point = advance(room, window, packets, single, &mut text, answers, point);
-        if !point.touches {
+        let Some(hand) = point.at_hand else {
             let end = ended(count, point);
             return Ran {
                 session,
                 taken: end.taken,
                 at: end.at,
             };
-        }
-        let place = point.place;
+        };
+        let place = hand.place;
         let there = session.orders[place];
-        let outcome = settle(room, &text, packets, point, there);
-        let last = outcome.last;
-        let order = outcome.order;
-        if outcome.removes {
-            session.orders[place] = session.orders[last];
-            session.orders[last] = no_order();
-        } else {
-            session.orders[place] = order;
+        match settle(room, &text, packets, point, hand, there) {
+            Outcome::Moves { last } => {
+                session.orders[place] = session.orders[last];
+                session.orders[last] = no_order();
+            }
+            Outcome::Stores(order) => session.orders[place] = order,
         }
     }
 }

@@ -1,12 +1,11 @@
 // The session's type, by value, and what is lent beside it with each call.
-ghost use Rattle.std.specs.Prelude.{◌≡◌, length, replicate};
+ghost use Rattle.std.specs.Prelude.{◌≡◌};
 ghost use Rattle.merge.specs.State.{opened};
 ghost use Rattle.book.specs.Tables.{fresh};
-ghost use Rattle.book.specs.declared.tables.OpeningRule.TheVariants.{Default, Strict};
 ghost use Rattle.session.specs.Meaning.{held, rep, Ruled, Sized};
 
 use book::tables;
-use book::tables::{Order, no_order};
+use book::tables::{OpeningRule, Order, no_order};
 use book_room::room;
 use book_room::room::Room;
 use window::places;
@@ -43,52 +42,25 @@ impl Session {
 
     pub const PLACES: usize = places::BYTES;
 
-    // Whatever stood in the room and the window is gone. A type that is not in the table is counted apart.
-    pub fn open(number: u32, room: &mut Room, window: &mut Window) -> Self
+    // Whatever stood in the room and the window is gone. A type that is not in the table is counted apart, or
+    // is fault 1 under the strict rule.
+    pub fn open(number: u32, rule: OpeningRule, room: &mut Room, window: &mut Window) -> Self
         requires { Sized room.old window.old }
-        ensures opened { held result room.new window.new ≡ rep (opened (fresh Default) number) }
+        ensures opened { held result room.new window.new ≡ rep (opened (fresh rule) number) }
         ensures rule { Ruled (held result room.new window.new) }
     {
         let order = no_order();
         let first = number as u64;
-        clear(room);
+        window.fill(0);
+        room.fill(0);
         room[room::NEXT] = first;
         room[room::END] = first;
-        free(window);
+        match rule {
+            OpeningRule::Default => {}
+            OpeningRule::Strict => room[room::RULE] = 1,
+        }
         Session {
             orders: [order; Self::ORDERS],
         }
-    }
-
-    // The same under the strict rule: a type that is not in the table is fault 1.
-    pub fn open_strict(number: u32, room: &mut Room, window: &mut Window) -> Self
-        requires { Sized room.old window.old }
-        ensures opened { held result room.new window.new ≡ rep (opened (fresh Strict) number) }
-        ensures rule { Ruled (held result room.new window.new) }
-    {
-        let session = Self::open(number, room, window);
-        room[room::RULE] = 1;
-        session
-    }
-}
-
-// Every number 0, and every byte.
-fn clear(room: &mut [u64])
-    ensures { room.new ≡ replicate (length room.old) 0 }
-{
-    let mut k = 0;
-    while k < room.len() {
-        room[k] = 0;
-        k += 1;
-    }
-}
-
-fn free(window: &mut [u8])
-    ensures { window.new ≡ replicate (length window.old) 0 }
-{
-    let mut k = 0;
-    while k < window.len() {
-        window[k] = 0;
-        k += 1;
     }
 }

@@ -1,6 +1,8 @@
 -- Document 02, T-06: a packet is judged and its messages wait; the answer to one, and the answers to several.
 -- Assumes nothing.
-use Rattle.std.specs.Prelude.{cond, List, ℕ, ◌*◌, eqb, ltb, length}
+use Rattle.std.specs.Prelude.{cond, List, ℕ, ◌*◌, ltb, length, Result}
+use Rattle.refusals.specs.Refusals.{answered}
+use Rattle.refusals.specs.declared.Refusal.{Refusal}
 use Rattle.wire.specs.Number.{splice}
 use Rattle.merge.specs.State.{State, call_all, keeps_of}
 use Rattle.packet.specs.Header.{decided}
@@ -9,17 +11,12 @@ use Rattle.window_taking.specs.Taking.{take_tests}
 use Rattle.window_taking.specs.Turns.{packets_in}
 use Rattle.window_keeping.specs.Keeping.{kept_rows}
 use Rattle.session.specs.Meaning.{Meaning, overnight}
-use Rattle.session_keeping.specs.declared.keeping.Kept.{Kept}
-use Rattle.session_keeping.specs.declared.keeping.Kept.TheVariants.{Fresh, Refused}
 
 -- ---- one packet
 
 -- how many of its numbers now wait that did not before, or the refusal
-unfoldable pub kept_answer : ℕ → ℕ → Kept
-kept_answer fresh refusal = cond (eqb refusal 0) (Fresh fresh) (Refused refusal)
-
-abbrev pub kept_of : {T : Type 0} → State (List ℕ) T → List ℕ → Kept
-kept_of x s = kept_answer (fresh_by x s) (decided (take_tests x s)).0
+abbrev pub kept_of : {T : Type 0} → State (List ℕ) T → List ℕ → Result ℕ Refusal
+kept_of x s = answered (decided (take_tests x s)).0 (fresh_by x s)
 
 -- ---- a burst: nothing changes where its list of answers is too short
 

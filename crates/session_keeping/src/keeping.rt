@@ -6,46 +6,33 @@ ghost use Rattle.session.specs.Meaning.{held, overnight, rep, view, Ruled};
 ghost use Rattle.session.specs.Asking.{line_in};
 ghost use Rattle.session.specs.Bursts.{bytes_of, count_of};
 ghost use Rattle.session.specs.declared.state.Session.{Session};
-ghost use Rattle.session_keeping.specs.Keeping.{answers_kept, burst_kept, kept_answer, kept_of};
+ghost use Rattle.session_keeping.specs.Keeping.{answers_kept, burst_kept, kept_of};
 
 use book_room::room::{END, NEXT, Room};
-use session::packets::{Count, count_of, due_of};
+use refusals::Refusal;
+use session::packets::{count_of, due_of};
 use window::places::Window;
 use window_admitting::admit;
 use window_keeping::keep_packets;
 
 #[derive(Clone, Copy)]
-pub enum Kept {
-    // How many of its numbers now wait that did not before.
-    Fresh(u64),
-    Refused(u8),
-}
-
-#[derive(Clone, Copy)]
 pub struct KeptAll {
-    pub count: Count,
+    // How many packets were kept.
+    pub count: Result<usize, Refusal>,
     // How many bytes they are, with their lengths.
     pub bytes: usize,
 }
 
-fn kept_by(fresh: u64, refusal: u8) -> Kept
-    ensures { result ≡ kept_answer fresh refusal }
-{
-    if refusal == 0 {
-        return Kept::Fresh(fresh);
-    }
-    Kept::Refused(refusal)
-}
-
-pub fn keep(room: &mut Room, window: &mut Window, packet: &[u8]) -> Kept
+// The answer is how many of its numbers now wait that did not before.
+pub fn keep(room: &mut Room, window: &mut Window, packet: &[u8]) -> Result<u64, Refusal>
     requires { (session : Session) × Ruled (held session room.old window.old) }
     ensures answer { result ≡ kept_of (line_in room.old window.old) packet.now }
     ensures held { (session : Session) → Ruled (held session room.old window.old) → held session room.new window.new ≡ rep (keep_one overnight (view (held session room.old window.old)) packet.now) }
     ensures rule { (session : Session) → Ruled (held session room.old window.old) → Ruled (held session room.new window.new) }
 {
-    let admitted = admit(window, room[NEXT], room[END], packet, false);
+    let admitted = admit(window, room[NEXT], room[END], packet, false)?;
     room[END] = admitted.end;
-    kept_by(admitted.fresh, admitted.refusal)
+    Ok(admitted.fresh)
 }
 
 // The first packets of the lent bytes, each behind its length of 2 bytes: as many as the host says, or all

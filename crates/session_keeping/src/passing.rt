@@ -4,12 +4,13 @@ ghost use Rattle.std.specs.Prelude.{◌≡◌, ◌≤◌};
 ghost use Rattle.window_taking.specs.Keeping.{waiting_of};
 ghost use Rattle.session.specs.Meaning.{held, rep, view, Ruled};
 ghost use Rattle.session.specs.Asking.{line_in};
-ghost use Rattle.session_keeping.specs.Passing.{applies_at, carries_at, passed_by, passed_of, pass_on};
+ghost use Rattle.session_keeping.specs.Passing.{applies_at, carries_at, passed_of, pass_on};
 ghost use Rattle.session.specs.declared.state.Session.{Session};
 
-use crate::keeping::{Kept, keep};
+use crate::keeping::keep;
 use book_room::room::{NEXT, Room};
 use packet::{HEADER, header};
+use refusals::Refusal;
 use window::places::{NUMBERS, Window, size_at};
 
 #[derive(Clone, Copy)]
@@ -17,7 +18,6 @@ pub enum Passed {
     // It carries next, or a message waits there: nothing is done, and it is for `take`.
     Applies,
     Kept,
-    Refused(u8),
 }
 
 // Whether a packet's header gives it next.
@@ -49,16 +49,7 @@ fn applies(window: &Window, packet: &[u8], next: u64) -> bool
     size_at(window, (next % NUMBERS) as usize) != 0
 }
 
-fn passed_by(kept: Kept) -> Passed
-    ensures { result ≡ passed_by kept }
-{
-    match kept {
-        Kept::Fresh(_) => Passed::Kept,
-        Kept::Refused(number) => Passed::Refused(number),
-    }
-}
-
-pub fn pass(room: &mut Room, window: &mut Window, packet: &[u8]) -> Passed
+pub fn pass(room: &mut Room, window: &mut Window, packet: &[u8]) -> Result<Passed, Refusal>
     requires { (session : Session) × Ruled (held session room.old window.old) }
     ensures answer { result ≡ passed_of (line_in room.old window.old) packet.now }
     ensures held { (session : Session) → Ruled (held session room.old window.old) → held session room.new window.new ≡ rep (pass_on (view (held session room.old window.old)) packet.now) }
@@ -66,8 +57,8 @@ pub fn pass(room: &mut Room, window: &mut Window, packet: &[u8]) -> Passed
 {
     let next = room[NEXT];
     if applies(window, packet, next) {
-        return Passed::Applies;
+        return Ok(Passed::Applies);
     }
-    let kept = keep(room, window, packet);
-    passed_by(kept)
+    keep(room, window, packet)?;
+    Ok(Passed::Kept)
 }

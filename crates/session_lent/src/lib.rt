@@ -5,14 +5,14 @@ ghost use Rattle.std.specs.Prelude.{◌≡◌, List, Bool, ℕ, length, replicat
 ghost use Rattle.wire.specs.Number.{splice};
 ghost use Rattle.merge.specs.State.{apply_up_to, take_all};
 ghost use Rattle.session.specs.Meaning.{end_in, feed, held, next_in, overnight, rep, view, Ruled};
-ghost use Rattle.session.specs.Engine.{Task, AtHand, Settled, begin_of};
+ghost use Rattle.session.specs.Engine.{Task, AtPlace, Settled, begin_of};
 ghost use Rattle.book.specs.declared.tables.Order.{Order as Record};
 ghost use Rattle.session.specs.Bursts.{rows_of, Runs};
 ghost use Rattle.window_taking.specs.Turns.{end_from, packets_from};
 
 use book::tables::{Order, no_order};
 use book_room::room::Room;
-use session::advancing::{Ended, Point, advance};
+use session::advancing::{AtHand, Ended, Point, advance};
 use session::running::ended;
 use session::settling::Outcome;
 use session::state::Session;
@@ -39,13 +39,14 @@ fn settle(
     text: &mut [u8; PLACE],
     packets: &[u8],
     point: Point,
+    hand: AtHand,
     there: Order,
 ) -> Outcome
-    requires { (t : Task) × (single : Bool) × (os : List Record) × (window answers : List ℕ) × AtHand t packets.now single os room.old window answers text.old point there }
-    ensures settled { (t : Task) (single : Bool) (os : List Record) (window answers : List ℕ) → AtHand t packets.now single os room.old window answers text.old point there → Settled t packets.now single os room.new window answers text.old point result }
+    requires { (t : Task) × (single : Bool) × (os : List Record) × (window answers : List ℕ) × AtPlace t packets.now single os room.old window answers text.old point hand there }
+    ensures settled { (t : Task) (single : Bool) (os : List Record) (window answers : List ℕ) → AtPlace t packets.now single os room.old window answers text.old point hand there → Settled t packets.now single os room.new window answers text.old point hand result }
     ensures same { text.new ≡ text.old }
 {
-    session::settling::settle(room, text, packets, point, there)
+    session::settling::settle(room, text, packets, point, hand, there)
 }
 
 // Up to so many of the messages that wait are applied; then so many packets of the lent bytes are taken, or
@@ -71,16 +72,17 @@ pub fn run(
     let mut point = begin(room, count, due);
     loop {
         point = advance(room, window, packets, single, &mut text, answers, point);
-        if !point.touches {
+        let Some(hand) = point.at_hand else {
             break;
-        }
-        let there = session.orders[point.place];
-        let outcome = settle(room, &mut text, packets, point, there);
-        if outcome.removes {
-            session.orders[point.place] = session.orders[outcome.last];
-            session.orders[outcome.last] = no_order();
-        } else {
-            session.orders[point.place] = outcome.order;
+        };
+        let place = hand.place;
+        let there = session.orders[place];
+        match settle(room, &mut text, packets, point, hand, there) {
+            Outcome::Moves { last } => {
+                session.orders[place] = session.orders[last];
+                session.orders[last] = no_order();
+            }
+            Outcome::Stores(order) => session.orders[place] = order,
         }
     }
     ended(count, point)

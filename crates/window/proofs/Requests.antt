@@ -1,5 +1,6 @@
 -- The requests, written one behind the other: what is left to write, from where the writing is, gives the whole buffer.
 -- Assumes nothing.
+use Rattle.std.proofs.Common.{Err, Ok}
 use mathlib.Core.Path.{◌≡◌, refl, ap, ◌∙◌, sym, subst}
 use mathlib.Core.List.{List, [], ◌∷◌}
 use Prim.Native.Nat.{ℕ, ◌+◌, ◌-◌, ◌*◌, ◌≤◌, ◌<◌}
@@ -10,7 +11,7 @@ use Rattle.wire.specs.Layout.{encode, put_row}
 use Rattle.wire.specs.Number.{splice}
 use Rattle.wire.proofs.Place.{length-splice, splice_next, splice-none}
 use Rattle.window.specs.Runs.{asked_of, buffer_after, gaps_of, layout, limit_of, missing_in, request_row, requests_of, runs_from, runs_of, IsCount, IsRun, Room}
-use Rattle.window.specs.declared.asking.Asked.TheVariants.{Count, Refused}
+use Rattle.refusals.specs.declared.Refusal.TheVariants.{NoRoom}
 use Rattle.window.specs.declared.missing.Gap.{Gap}
 use Rattle.window.proofs.Splits.{gap_none, gap_some, up_to}
 
@@ -69,20 +70,20 @@ module _ (window : List ℕ) (next end : ℕ) (buf : List ℕ) {limit r : ℕ} (
   all : r ≡ length (gaps_of window next end)
   all = count.is ∙ ap (λ (l : ℕ). length (runs_of (missing_in window) next (l - next))) told
 
-  few : length buf < 12 * r → Refused 11 ≡ asked_of (gaps_of window next end) (length buf)
+  few : length buf < 12 * r → Err NoRoom ≡ asked_of (gaps_of window next end) (length buf)
   unfolding asked_of
   few h = simp (lt-ltb (length buf) (12 * length (gaps_of window next end)) (subst (λ (k : ℕ). length buf < 12 * k) all h))
 
-  enough : 12 * r ≤ length buf → Count r ≡ asked_of (gaps_of window next end) (length buf)
+  enough : 12 * r ≤ length buf → Ok r ≡ asked_of (gaps_of window next end) (length buf)
   unfolding asked_of
   enough h =
-      simp (le-ltb (length buf) (12 * length (gaps_of window next end)) (subst (λ (k : ℕ). 12 * k ≤ length buf) all h)) (ap Count all)
+      simp (le-ltb (length buf) (12 * length (gaps_of window next end)) (subst (λ (k : ℕ). 12 * k ≤ length buf) all h)) (ap Ok all)
 
-  pub asked_few : length buf < 12 * r → (Refused 11 ≡ asked_of (gaps_of window next end) (length buf)) × (buf ≡ buffer_after (gaps_of window next end) buf)
+  pub asked_few : length buf < 12 * r → (Err NoRoom ≡ asked_of (gaps_of window next end) (length buf)) × (buf ≡ buffer_after (gaps_of window next end) buf)
   unfolding buffer_after
   asked_few h = (few h, rw (← few h))
 
-  pub asked_all : {after : List ℕ} → 12 * r ≤ length buf → after ≡ splice buf 0 (requests_of (runs_of (missing_in window) next (limit - next))) → (Count r ≡ asked_of (gaps_of window next end) (length buf)) × (after ≡ buffer_after (gaps_of window next end) buf)
+  pub asked_all : {after : List ℕ} → 12 * r ≤ length buf → after ≡ splice buf 0 (requests_of (runs_of (missing_in window) next (limit - next))) → (Ok r ≡ asked_of (gaps_of window next end) (length buf)) × (after ≡ buffer_after (gaps_of window next end) buf)
   unfolding buffer_after
   asked_all h e =
       (enough h, rw (← enough h) (e ∙ ap (λ (l : ℕ). splice buf 0 (requests_of (runs_of (missing_in window) next (l - next)))) told))
@@ -95,10 +96,10 @@ module _ (window : List ℕ) {next end : ℕ} (buf : List ℕ) (level : end ≡ 
       let left : limit_of next end - next ≡ 0 = omega arith in
       ap (runs_of (missing_in window) next) left
 
-  count_none : Count 0 ≡ asked_of [] (length buf)
+  count_none : Ok 0 ≡ asked_of [] (length buf)
   unfolding asked_of
   count_none = simp (le-ltb (length buf) 0 (omega arith))
 
-  pub asked_none : (Count 0 ≡ asked_of (gaps_of window next end) (length buf)) × (buf ≡ buffer_after (gaps_of window next end) buf)
+  pub asked_none : (Ok 0 ≡ asked_of (gaps_of window next end) (length buf)) × (buf ≡ buffer_after (gaps_of window next end) buf)
   unfolding buffer_after requests_of
   asked_none = rw none (count_none, rw (← count_none) (sym (splice-none buf 0)))

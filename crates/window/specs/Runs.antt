@@ -1,12 +1,12 @@
 -- Document 01, "Requests": for each longest run of missing numbers, ascending, one request.
 -- Assumes nothing.
-use Rattle.std.specs.Prelude.{Bool, true, false, not, cond, ◌≡◌, List, [], ◌∷◌, ◌++◌, ℕ, zero, suc, ◌+◌, ◌-◌, ◌*◌, ◌%◌, ◌≤◌, min, eqb, ltb, length}
+use Rattle.std.specs.Prelude.{Bool, true, false, not, cond, ◌≡◌, List, [], ◌∷◌, ◌++◌, ℕ, zero, suc, ◌+◌, ◌-◌, ◌*◌, ◌%◌, ◌≤◌, min, eqb, ltb, length, Result, Ok, Err}
 use Rattle.window.specs.declared.missing.Gap.{Gap}
 use Rattle.window.specs.Window.{size_at}
 use Rattle.wire.specs.Layout.{Field, number, Value, number_is, encode}
 use Rattle.wire.specs.Number.{splice}
-use Rattle.window.specs.declared.asking.Asked.{Asked}
-use Rattle.window.specs.declared.asking.Asked.TheVariants.{Count, Refused}
+use Rattle.refusals.specs.declared.Refusal.{Refusal}
+use Rattle.refusals.specs.declared.Refusal.TheVariants.{NoRoom}
 
 -- a run that ends before k, if it has begun
 abbrev pub closed : ℕ → ℕ → List (ℕ × ℕ)
@@ -85,13 +85,13 @@ pub record Room (window : List ℕ) (from limit n : ℕ) : Type 0 where
   pub near : limit ≤ from + 256
   pub room : 12 * length (runs_of (missing_in window) from (limit - from)) ≤ n
 
--- 11 exactly if the buffer is too short for all, nothing written; else how many were written
-unfoldable pub asked_of : List (ℕ × ℕ) → ℕ → Asked
-asked_of runs n = cond (ltb n (12 * length runs)) (Refused 11) (Count (length runs))
+-- no room exactly if the buffer is too short for all, nothing written; else how many were written
+unfoldable pub asked_of : List (ℕ × ℕ) → ℕ → Result ℕ Refusal
+asked_of runs n = cond (ltb n (12 * length runs)) (Err NoRoom) (Ok (length runs))
 
-abbrev pub buffer_by : Asked → List (ℕ × ℕ) → List ℕ → List ℕ
-buffer_by (Count n) runs buf = splice buf 0 (requests_of runs)
-buffer_by (Refused refusal) runs buf = buf
+abbrev pub buffer_by : Result ℕ Refusal → List (ℕ × ℕ) → List ℕ → List ℕ
+buffer_by (Ok n) runs buf = splice buf 0 (requests_of runs)
+buffer_by (Err refusal) runs buf = buf
 
 unfoldable pub buffer_after : List (ℕ × ℕ) → List ℕ → List ℕ
 buffer_after runs buf = buffer_by (asked_of runs (length buf)) runs buf

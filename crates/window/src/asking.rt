@@ -6,13 +6,7 @@ ghost use Rattle.window.specs.Runs.{asked_of, buffer_after, gaps_of, layout, mis
 
 use crate::missing;
 use crate::places::{NUMBERS, Window};
-use wire::least;
-
-#[derive(Clone, Copy)]
-pub enum Asked {
-    Count(usize),
-    Refused(u8),
-}
+use refusals::Refusal;
 
 // A request's bytes, and the same as its size has them.
 const REQUEST: usize = 12;
@@ -50,19 +44,19 @@ fn requests_from(window: &Window, from: u64, limit: u64, buf: &mut [u8])
 
 // The requests for all that is missing, where the numbers from next on are known up to end. Mostly nothing is known
 // beyond next.
-pub fn requests(window: &Window, next: u64, end: u64, buf: &mut [u8]) -> Asked
+pub fn requests(window: &Window, next: u64, end: u64, buf: &mut [u8]) -> Result<usize, Refusal>
     requires { (next ≤ end) × (end ≤ 4294967296) }
     ensures answer { result ≡ asked_of (gaps_of window.now next end) (length buf.old) }
     ensures buffer { buf.new ≡ buffer_after (gaps_of window.now next end) buf.old }
 {
     if end == next {
-        return Asked::Count(0);
+        return Ok(0);
     }
-    let limit = least(end, next + NUMBERS);
+    let limit = end.min(next + NUMBERS);
     let runs = missing::count(window, next, limit) as usize;
     if buf.len() < REQUEST * runs {
-        return Asked::Refused(11);
+        return Err(Refusal::NoRoom);
     }
     requests_from(window, next, limit, buf);
-    Asked::Count(runs)
+    Ok(runs)
 }

@@ -8,20 +8,20 @@ ghost use Rattle.window_taking.specs.Keeping.{state_of, waiting_of, window_for, 
 
 use packet::header;
 use packet_judge::judge;
+use refusals::Refusal;
 use window::places::{NUMBERS, Window};
 use window_taking::admitting::Admitted;
 use window_taking::differing::differs;
 use window_taking::keeping::keep_all;
-use wire::most;
 
-fn answer(refusal: u8, end: u64, direct: usize, fresh: u64) -> Admitted
-    ensures { result ≡ record { refusal = refusal; end = end; direct = direct; fresh = fresh } }
+// A packet that is taken, and changes no more than end.
+fn taken(end: u64) -> Admitted
+    ensures { result ≡ record { end = end; direct = 0; fresh = 0 } }
 {
     Admitted {
-        refusal,
         end,
-        direct,
-        fresh,
+        direct: 0,
+        fresh: 0,
     }
 }
 
@@ -49,35 +49,34 @@ fn clashes(window: &Window, next: u64, end: u64, s: &[u8], first: u64, messages:
 }
 
 // `through` says that its messages are applied at once; without it they are kept in any case.
-pub fn admit(window: &mut Window, next: u64, end: u64, s: &[u8], through: bool) -> Admitted
+pub fn admit(window: &mut Window, next: u64, end: u64, s: &[u8], through: bool) -> Result<Admitted, Refusal>
     requires neat { Neat window.old next }
     requires known { Known window.old next end }
     ensures answer { result ≡ admitted_of through (state_of window.old next end) s.now }
     ensures kept { window.new ≡ window_for (held_by through (state_of window.old next end) s.now).waiting next }
 {
-    let judged = judge(s);
-    if judged.test != 0 {
-        return answer(judged.test, end, 0, 0);
-    }
+    judge(s)?;
     let head = header::fields(s);
     let first = head.seq as u64;
     let messages = head.messages;
     if head.flag % 2 == 1 {
-        return answer(0, most(end, first), 0, 0);
+        return Ok(taken(end.max(first)));
     }
     let stop = first + (messages as u64);
     if next + NUMBERS < stop {
-        return answer(9, end, 0, 0);
+        return Err(Refusal::TooFarAhead);
     }
+    let behind = taken(end.max(stop));
     if stop <= next {
-        return answer(0, most(end, stop), 0, 0);
+        return Ok(behind);
     }
     if straight(through, next, end, first) {
-        return answer(0, most(end, stop), messages as usize, 0);
+        let direct = messages as usize;
+        return Ok(Admitted { direct, ..behind });
     }
     if clashes(window, next, end, s, first, messages) {
-        return answer(10, end, 0, 0);
+        return Err(Refusal::Differs);
     }
     let fresh = keep_all(window, next, s, first, messages);
-    answer(0, most(end, stop), 0, fresh)
+    Ok(Admitted { fresh, ..behind })
 }

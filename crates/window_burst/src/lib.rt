@@ -1,7 +1,7 @@
 // Parts: from one packet of a burst to the next.
 #![tactic(auto)]
 
-ghost use Rattle.std.specs.Prelude.{false, true, ◌≡◌, [], ◌∷◌, ◌+◌, ◌-◌, ◌≤◌, min, length};
+ghost use Rattle.std.specs.Prelude.{false, true, ◌≡◌, [], ◌∷◌, ◌+◌, ◌-◌, ◌≤◌, Ok, length};
 ghost use Rattle.wire.specs.Number.{splice};
 ghost use Rattle.window_taking.specs.Keeping.{state_of, window_for, held_by, Known, Neat};
 ghost use Rattle.window_taking.specs.Turns.{frame_at, from_by, packet_at, turn_of, at_start, closing, place_after, done_in, Lies, Closes, Follows};
@@ -49,33 +49,19 @@ pub fn start(next: u64, end: u64, count: usize) -> Turn
         at: 0,
         place: 0,
         before: next,
-        refusal: 0,
+        refusal: None,
         end,
         direct: 0,
         from: 0,
     }
 }
 
-// A packet's header, or as much of it as there is.
-fn header(size: usize) -> usize
-    ensures { result ≡ min size 12 }
-{
-    if size < packet::HEADER {
-        size
-    } else {
-        packet::HEADER
-    }
-}
-
-// Where the messages begin that are applied straight from a packet; where none is, how many of those that
-// wait are due: all behind a packet that is taken.
+// Where the messages begin that are applied straight from a packet that is taken; where none is, all of those
+// that wait are due.
 fn from_of(admitted: Admitted, begin: usize) -> usize
-    ensures { result ≡ from_by admitted begin }
+    ensures { result ≡ from_by (Ok admitted) begin }
 {
-    if admitted.direct != 0 {
-        return begin;
-    }
-    if admitted.refusal == 0 { DUE } else { 0 }
+    if admitted.direct == 0 { DUE } else { begin }
 }
 
 // The packet at a place, judged and kept.
@@ -98,18 +84,30 @@ fn begin(
     let frame = frame_of(s, single, at);
     let start = frame.start;
     let stop = start + frame.size;
-    let from = start + header(frame.size);
-    let admitted = admit(window, next, end, &s[start..stop], true);
-    Turn {
+    // Behind its header, or as much of that as there is.
+    let from = start + frame.size.min(packet::HEADER);
+    let turn = Turn {
         begun: true,
         left,
         at: stop,
         place,
         before: next,
-        refusal: admitted.refusal,
-        end: admitted.end,
-        direct: admitted.direct,
-        from: from_of(admitted, from),
+        refusal: None,
+        end,
+        direct: 0,
+        from: 0,
+    };
+    match admit(window, next, end, &s[start..stop], true) {
+        Ok(admitted) => Turn {
+            end: admitted.end,
+            direct: admitted.direct,
+            from: from_of(admitted, from),
+            ..turn
+        },
+        Err(refusal) => Turn {
+            refusal: Some(refusal),
+            ..turn
+        },
     }
 }
 
@@ -179,6 +177,6 @@ pub fn close(answers: &mut [u64], turn: Turn, next: u64)
     }
     let place = turn.place;
     let applied = next - turn.before;
-    let refusal = turn.refusal as u64;
+    let refusal = turn.refusal.map_or(0, |refusal| refusal.number()) as u64;
     put_answer(answers, place, applied, refusal, next, turn.end);
 }

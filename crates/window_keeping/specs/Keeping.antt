@@ -1,6 +1,6 @@
 -- The packets of a burst kept one after the other, nothing applied: the answer to each.
 -- Assumes nothing.
-use Rattle.std.specs.Prelude.{false, List, [], ◌∷◌, ◌++◌, ℕ, ◌+◌, ◌-◌, ◌≤◌}
+use Rattle.std.specs.Prelude.{false, List, [], ◌∷◌, ◌++◌, ℕ, ◌+◌, ◌-◌, ◌≤◌, None}
 use Rattle.merge.specs.State.{State}
 use Rattle.packet.specs.Header.{decided}
 use Rattle.window_taking.specs.Keeping.{fresh_by, kept_by}
@@ -26,7 +26,7 @@ module _ {Table : Type 0} where
         at = behind false s turn.at;
         place = turn.place + 4;
         before = x.next;
-        refusal = 0;
+        refusal = None;
         end = (kept_by x (packet_at false s turn.at)).end;
         direct = 0;
         from = 0;

@@ -7,6 +7,7 @@ ghost use Rattle.window_taking.specs.Keeping.{kept_all, kept_by, state_of, windo
 ghost use Rattle.window_taking.specs.Turns.{end_from, packet_at, packets_from};
 ghost use Rattle.window_keeping.specs.Keeping.{kept_row, kept_rows, turn_after, Hands};
 
+use refusals::number_in;
 use window::places::Window;
 use window_admitting::admit;
 use window_burst::{done, framed, put_answer, start};
@@ -35,22 +36,20 @@ fn keep_next(window: &mut Window, s: &[u8], answers: &mut [u64], turn: Turn, nex
     let behind = begin + frame.size;
     let place = turn.place;
     let admitted = admit(window, next, turn.end, &s[begin..behind], false);
-    put_answer(
-        answers,
-        place,
-        admitted.fresh,
-        admitted.refusal as u64,
-        next,
-        admitted.end,
-    );
+    let refusal = number_in(&admitted) as u64;
+    let (fresh, end) = match admitted {
+        Ok(taken) => (taken.fresh, taken.end),
+        Err(_) => (0, turn.end),
+    };
+    put_answer(answers, place, fresh, refusal, next, end);
     Turn {
         begun: false,
         left: turn.left - 1,
         at: behind,
         place: place + 4,
         before: next,
-        refusal: 0,
-        end: admitted.end,
+        refusal: None,
+        end,
         direct: 0,
         from: 0,
     }

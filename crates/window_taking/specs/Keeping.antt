@@ -1,13 +1,14 @@
 -- Document 01, "Taking a packet", on the window alone: what waits in it, and what it holds once a packet is kept.
 -- Assumes nothing.
-use Rattle.std.specs.Prelude.{◌≡◌, Bool, false, cond, ◌&&◌, List, [], ◌∷◌, ℕ, ◌+◌, ◌≤◌, ◌<◌, eqb, length}
+use Rattle.std.specs.Prelude.{◌≡◌, Bool, false, cond, ◌&&◌, List, [], ◌∷◌, ℕ, ◌+◌, ◌≤◌, ◌<◌, eqb, length, Result, None}
 use Rattle.std.proofs.Math.Option.{Option, none, some}
 use Rattle.wire.specs.Number.{part}
+use Rattle.refusals.specs.Refusals.{answered}
+use Rattle.refusals.specs.declared.Refusal.{Refusal}
 use Rattle.merge.specs.State.{Packet, State, fresh_if, kept_if}
 use Rattle.merge.specs.Places.{waiting_in, number_at}
 use Rattle.packet.specs.Header.{decided}
 use Rattle.packet.specs.Walk.{walk_from}
-use Rattle.packet.specs.declared.walk.Walked.TheVariants as walked
 use Rattle.window.specs.Window.{waits_at, window_of}
 use Rattle.message.specs.Whole.{Whole}
 use Rattle.window_taking.specs.Taking.{judge, take_tests}
@@ -44,7 +45,7 @@ pub record Framed (s : List ℕ) (at size : ℕ) : Type 0 where
 
 -- a packet that passed 7 to 9: its messages are whole, its numbers within the window
 pub record Passed (s : List ℕ) (next first messages : ℕ) : Type 0 where
-  pub walk : walk_from messages 12 s ≡ walked.Whole
+  pub walk : walk_from messages 12 s ≡ None
   pub long : 12 ≤ length s
   pub near : first + messages ≤ next + 256
 
@@ -82,13 +83,13 @@ module _ {Table : Type 0} where
   unfoldable pub held_by : Bool → State (List ℕ) Table → List ℕ → State (List ℕ) Table
   held_by through x s = cond (through_in through x s) x (kept_by x s)
 
-  -- the answer: the test that refuses the packet, 0 where none does, end behind it, how many messages are applied straight from it,
-  -- and how many numbers now wait that did not before
-  unfoldable pub admitted_of : Bool → State (List ℕ) Table → List ℕ → Admitted
+  -- the answer: the refusal of the test that applies; where none does, end behind the packet, how many messages are applied straight
+  -- from it, and how many numbers now wait that did not before
+  unfoldable pub admitted_of : Bool → State (List ℕ) Table → List ℕ → Result Admitted Refusal
   admitted_of through x s =
-      record {
-        refusal = (decided (take_tests x s)).0;
+      answered (decided (take_tests x s)).0
+      (record {
         end = (kept_by x s).end;
         direct = cond (through_in through x s) (count_of (judge x s)) 0;
         fresh = cond (through_in through x s) 0 (fresh_by x s);
-      }
+      })

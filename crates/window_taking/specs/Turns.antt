@@ -1,7 +1,9 @@
 -- Parts of a burst: where a packet lies, and the turn that it is given.
 -- Assumes nothing.
-use Rattle.std.specs.Prelude.{Bool, true, false, cond, List, [], ◌∷◌, ℕ, zero, suc, ◌+◌, ◌-◌, ◌≤◌, min, eqb, ltb, length}
+use Rattle.std.specs.Prelude.{Bool, true, false, cond, List, [], ◌∷◌, ℕ, zero, suc, ◌+◌, ◌-◌, ◌≤◌, min, eqb, ltb, length, Result, Ok, Err, Option, Some, None}
 use Rattle.wire.specs.Number.{num, part}
+use Rattle.refusals.specs.Refusals.{refusal_or_none}
+use Rattle.refusals.specs.declared.Refusal.{Refusal}
 use Rattle.merge.specs.State as merge
 use Rattle.window_taking.specs.Keeping.{admitted_of}
 use Rattle.window_taking.specs.declared.admitting.Admitted.{Admitted}
@@ -46,10 +48,26 @@ pub record Lies (single : Bool) (s : List ℕ) (at : ℕ) : Type 0 where
   pub start : (frame_at single s at).start ≤ length s
   pub within : behind single s at ≤ length s
 
--- where the messages begin that are applied straight from the packet; where none is, how many of those that wait are due: none behind
--- a packet that is refused, and else as many as can wait
-abbrev pub from_by : Admitted → ℕ → ℕ
-from_by admitted begin = cond (eqb admitted.direct 0) (cond (eqb admitted.refusal 0) 256 0) begin
+-- by what judging a packet answers: its refusal, if there is one
+abbrev pub refused_by : Result Admitted Refusal → Option Refusal
+refused_by (Ok admitted) = None
+refused_by (Err refusal) = Some refusal
+
+-- end behind it: a packet that is refused leaves end as it was
+abbrev pub end_by : ℕ → Result Admitted Refusal → ℕ
+end_by end (Ok admitted) = admitted.end
+end_by end (Err refusal) = end
+
+-- how many of its messages are applied straight from it
+abbrev pub direct_by : Result Admitted Refusal → ℕ
+direct_by (Ok admitted) = admitted.direct
+direct_by (Err refusal) = 0
+
+-- where those begin; where there are none, how many of the messages that wait are due: none behind a packet that is refused, and
+-- else as many as can wait
+abbrev pub from_by : Result Admitted Refusal → ℕ → ℕ
+from_by (Ok admitted) begin = cond (eqb admitted.direct 0) 256 begin
+from_by (Err refusal) begin = 0
 
 module _ {Table : Type 0} where
   -- the turn of the packet at a place
@@ -61,9 +79,9 @@ module _ {Table : Type 0} where
         at = behind single s at;
         place = place;
         before = x.next;
-        refusal = (admitted_of true x (packet_at single s at)).refusal;
-        end = (admitted_of true x (packet_at single s at)).end;
-        direct = (admitted_of true x (packet_at single s at)).direct;
+        refusal = refused_by (admitted_of true x (packet_at single s at));
+        end = end_by x.end (admitted_of true x (packet_at single s at));
+        direct = direct_by (admitted_of true x (packet_at single s at));
         from = from_by (admitted_of true x (packet_at single s at)) ((frame_at single s at).start + min (frame_at single s at).size 12);
       }
 
@@ -76,7 +94,7 @@ at_start next end count =
       at = 0;
       place = 0;
       before = next;
-      refusal = 0;
+      refusal = None;
       end = end;
       direct = 0;
       from = 0;
@@ -88,7 +106,7 @@ answer_if true row = row
 answer_if false row = []
 
 abbrev pub closing : Turn → ℕ → List ℕ
-closing turn next = answer_if turn.begun ((next - turn.before) ∷ turn.refusal ∷ next ∷ turn.end ∷ [])
+closing turn next = answer_if turn.begun ((next - turn.before) ∷ refusal_or_none turn.refusal ∷ next ∷ turn.end ∷ [])
 
 -- where the next answer goes
 abbrev pub place_if : Bool → ℕ → ℕ

@@ -2,7 +2,7 @@
 -- Assumes nothing.
 use mathlib.Core.Path.{◌≡◌, refl, ap, ◌∙◌, sym, subst}
 use mathlib.Core.List.{List, [], ◌∷◌, ◌++◌, append_assoc}
-use Prim.Native.Nat.{ℕ, zero, suc, ◌+◌, ◌^◌, ◌≤◌, ◌<◌}
+use Prim.Native.Nat.{ℕ, zero, suc, ◌+◌, ◌-◌, ◌^◌, ◌≤◌, ◌<◌}
 use native.Mathlib.Nat.{add_assoc, add-zero}
 use native.Mathlib.Omega.{arith}
 use lib.ListN.{length, get_or, take, drop, length-append, length-take, length-drop, take-append-drop}
@@ -25,6 +25,12 @@ behind-is s at k (suc w) h =
 pub part-is : (s : List ℕ) (at w : ℕ) → at + w ≤ length s → part s at w ≡ take w (drop at s)
 part-is s at zero h = refl
 part-is s at (suc w) h = rw (cons s at w (omega arith), behind-is s at 1 w (omega arith))
+
+-- the same part by its ends
+pub part-range : (s : List ℕ) (at w : ℕ) → at + w ≤ length s → take (at + w - at) (drop at s) ≡ part s at w
+part-range s at w h =
+    let k : at + w - at ≡ w = omega arith in
+    ap (λ (n : ℕ). take n (drop at s)) k ∙ sym (part-is s at w h)
 
 pub length_part : (s : List ℕ) (at w : ℕ) → at + w ≤ length s → length (part s at w) ≡ w
 length_part s at w h = rw (part-is s at w h) (length-take-le w (drop at s) (simp length-drop (omega arith)))

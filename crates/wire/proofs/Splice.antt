@@ -2,12 +2,13 @@
 -- Assumes nothing.
 use mathlib.Core.Path.{◌≡◌, refl, ap, ◌∙◌, sym}
 use mathlib.Core.List.{List, [], ◌∷◌, append_assoc}
-use Prim.Native.Nat.{ℕ, suc, ◌+◌, ◌≤◌, ◌<◌}
+use Prim.Native.Nat.{ℕ, suc, ◌+◌, ◌-◌, ◌≤◌, ◌<◌}
 use native.Mathlib.Nat.{add-suc}
 use native.Mathlib.Omega.{arith}
 use native.Mathlib.Numerals.{add-one}
 use lib.ListN.{length, get_or, set, take, drop}
-use lib.Seq.{sets, sets-eq, paste, paste-suc, take_all}
+use borrow.Rule.Slice.PartMut.{put_mid}
+use lib.Seq.{sets, sets-eq, paste, paste-suc, take_all, drop-drop}
 use Rattle.wire.specs.Number.{splice}
 
 -- stored from the k-th behind a place on
@@ -33,6 +34,13 @@ stored_sets s at (b ∷ bs) =
 pub stored_splice : (s : List ℕ) (at : ℕ) (bs : List ℕ) → at + length bs ≤ length s → stored s at bs ≡ splice s at bs
 unfolding splice
 stored_splice s at bs h = stored_sets s at bs ∙ sets-eq bs s at h ∙ append_assoc (take at s) bs (drop (at + length bs) s)
+
+-- bytes that replace a part as long as they are
+pub replaced : (s : List ℕ) (at : ℕ) (bs new : List ℕ) → new ≡ bs → put_mid at (at + length bs - at) s new ≡ splice s at bs
+unfolding splice
+replaced s at bs new e =
+    let k : at + length bs - at ≡ length bs = omega arith in
+    rw (k, e, drop-drop (length bs) at s)
 
 -- a loop's next store, and its last
 pub pasted_more : (s : List ℕ) (at : ℕ) (bs : List ℕ) (k : ℕ) {t : List ℕ} → t ≡ paste s at bs k → at + length bs ≤ length s → k < length bs → set t (at + k) (get_or bs k 0) ≡ paste s at bs (k + 1)

@@ -35,6 +35,7 @@ pub fn put_u64(buf: &mut [u8], at: usize, n: u64)
     put_u32(buf, at + 4, (n % 4294967296) as u32);
 }
 
+#[tactic(auto, using(crate::proofs::Splice::replaced))]
 pub fn put_text(buf: &mut [u8], at: usize, text: &[u8])
     requires { at + length text.now ≤ length buf.old }
     ensures { buf.new ≡ splice buf.old at text.now }

@@ -2,7 +2,7 @@
 -- Assumes nothing.
 use native.Mathlib.Omega.{arith}
 use Rattle.book_index.proofs.Laws.{size_of}
-use Rattle.book_index.proofs.Walks.{seek_key, is_last, seek_head, seek_none, seek_falls, seek_live, seek_found, seek_on}
+use Rattle.book_index.proofs.Walks.{seek_key, last_none, last_some, seek_head, seek_none, seek_falls, seek_live, seek_found, seek_on}
 use Rattle.book_index.proofs.find.Goals as goal
 
 pub loop-live-init : goal.loop-live-init
@@ -17,7 +17,7 @@ bounds-index-cell c =
 pub returns-then-at-eq0 : goal.returns-then-at-eq0
 returns-then-at-eq0 c =
     let x = c.requires in
-    is_last _ _ _ _ x (seek_none (seek_key _ _ _ _ x) c.loop-live.invariant c.if-at-eq0.true)
+    last_none _ _ _ _ x (seek_none (seek_key _ _ _ _ x) c.loop-live.invariant c.if-at-eq0.true)
 
 pub offset_bounds-keys-cell : goal.offset_bounds-keys-cell
 offset_bounds-keys-cell c =
@@ -33,7 +33,7 @@ bounds-keys-cell c =
 pub returns-then-keys-cell : goal.returns-then-keys-cell
 returns-then-keys-cell c =
     let x = c.requires in
-    is_last _ _ _ _ x
+    last_some _ _ _ _ x (seek_live (seek_key _ _ _ _ x) c.loop-live.invariant c.if-at-eq0.false)
     (seek_found (seek_key _ _ _ _ x) c.loop-live.invariant c.if-at-eq0.false c.if-keys-cell.true)
 
 pub loop-live-smaller : goal.loop-live-smaller

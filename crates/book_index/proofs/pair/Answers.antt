@@ -3,7 +3,7 @@
 use native.Mathlib.Omega.{arith}
 use Rattle.book_index.proofs.Laws.{size_of}
 use Rattle.book_index.proofs.Walks.{seek_head, seek_none, seek_falls, seek_live, seek_found, seek_on}
-use Rattle.book_index.proofs.Pairs.{both_here, both_are, seek_pair, is_pair}
+use Rattle.book_index.proofs.Pairs.{both_here, both_are, seek_pair, pair_none, pair_some}
 use Rattle.book_index.proofs.pair.Goals as goal
 
 pub loop-held-init : goal.loop-held-init
@@ -18,7 +18,7 @@ bounds-index-cell c =
 pub returns-then-at-eq0 : goal.returns-then-at-eq0
 returns-then-at-eq0 c =
     let x = c.requires in
-    is_pair _ _ _ _ x _ _ (seek_none (seek_pair _ _ _ _ x _ _) c.loop-held.invariant c.if-at-eq0.true)
+    pair_none _ _ _ _ x _ _ (seek_none (seek_pair _ _ _ _ x _ _) c.loop-held.invariant c.if-at-eq0.true)
 
 pub offset_bounds-fronts-cell : goal.offset_bounds-fronts-cell
 offset_bounds-fronts-cell c =
@@ -46,7 +46,7 @@ bounds-backs-cell c =
 pub returns-then-backs-cell : goal.returns-then-backs-cell
 returns-then-backs-cell c =
     let x = c.requires in
-    is_pair _ _ _ _ x _ _
+    pair_some _ _ _ _ x _ _ (seek_live (seek_pair _ _ _ _ x _ _) c.loop-held.invariant c.if-at-eq0.false)
     (seek_found (seek_pair _ _ _ _ x _ _) c.loop-held.invariant c.if-at-eq0.false
     (both_here _ _ _ _ _ c.if-fronts-cell.true c.if-backs-cell.true))
 

@@ -10,10 +10,10 @@ returns-then-end-next c =
 
 pub returns-then-buf-runs : goal.returns-then-buf-runs
 returns-then-buf-runs c =
-    let told = asked_few c.args.window.now c.args.next c.args.end c.args.buf.now c.least-limit.ensures c.count-runs.ensures c.if-buf-runs.true in
+    let told = asked_few c.args.window.now c.args.next c.args.end c.args.buf.now c.min-limit.ensures c.count-runs.ensures c.if-buf-runs.true in
     record { answer = told.0; buffer = told.1 }
 
 pub returns : goal.returns
 returns c =
-    let told = asked_all c.args.window.now c.args.next c.args.end c.args.buf.now c.least-limit.ensures c.count-runs.ensures c.if-buf-runs.false c.requests_from.ensures in
+    let told = asked_all c.args.window.now c.args.next c.args.end c.args.buf.now c.min-limit.ensures c.count-runs.ensures c.if-buf-runs.false c.requests_from.ensures in
     record { answer = told.0; buffer = told.1 }
