@@ -9,28 +9,23 @@ use native.Mathlib.Omega.{arith}
 use lib.Dec.{eqb}
 use lib.ListN.{length, get_or, take, drop, length-map}
 use lib.Seq.{drop-cons, drop-length, length-take-le}
+use Rattle.std.specs.Prelude.{Err, None, Ok, Option, Result, Some, is_ok}
+use Rattle.refusals.specs.declared.Refusal.{Refusal}
+use Rattle.refusals.specs.declared.Refusal.TheVariants.{BadQuestion, NotThere}
 use Rattle.fields.specs.Id.{good_id, number_of, id_answer}
 use Rattle.fields.specs.Rules.{good_symbol, good_side}
-use Rattle.fields.specs.declared.id.IdValue.{IdValue}
-use Rattle.fields.specs.declared.id.IdValue.TheVariants.{Value, Refused}
 use Rattle.fields.proofs.Ids.{accepted_good}
 use Rattle.book.specs.Lookup.{is_at, place_found, front_of, back_of, key_at, symbol_at}
 use Rattle.book.specs.Tables.{Book, blank, gone, no_inside, ids_of, fronts_of, backs_of, view}
 use Rattle.book.specs.Rule.{Kept}
-use Rattle.book.specs.Asking.{no_order_for, order_asked, no_inside_for, inside_asked, inside_for, better, is_of, alone, joined, best_in, no_level, best_for, reply_with, Joins, Room}
-use Rattle.book.specs.declared.lookup.Found.{Found}
-use Rattle.book.specs.declared.lookup.Found.TheVariants.{At, Nothing}
+use Rattle.book.specs.Asking.{order_asked, inside_asked, inside_for, better, is_of, alone, joined, best_in, no_level, best_for, reply_with, Joins, Room}
 use Rattle.book.specs.declared.tables.Order.{Order}
 use Rattle.book.specs.declared.tables.Inside.{Inside}
-use Rattle.book.specs.declared.asking.Reply.TheVariants.{Known}
 use Rattle.book.specs.declared.asking.Level.{Level}
-use Rattle.book.specs.declared.asking.OrderReply.{OrderReply}
-use Rattle.book.specs.declared.asking.InsideReply.{InsideReply}
-use Rattle.book.specs.declared.asking.BestReply.{BestReply}
 use Rattle.book.proofs.Carrying.{live_is, held-is, keys_are, insides_are, fronts_are, backs_are, order_at}
 use Rattle.book.proofs.Holding.{get_places}
 use Rattle.book.proofs.Steps.{front_keys}
-use Rattle.book.proofs.Types.{pick, answer_value}
+use Rattle.book.proofs.Types.{pick, answer_refused, answer_value}
 use Rattle.book.proofs.Under.{key_below, symbol_below}
 
 get_d_take : (n i : ℕ) (xs : List Order) → i < n → get_or (take n xs) i blank ≡ get_or xs i blank
@@ -42,14 +37,17 @@ get_d_take (suc n) (suc i) (x ∷ xs) h = get_d_take n i xs (omega arith)
 module _ (b : Book) (kept : Kept b) where
   -- ---- by order id
 
-  module _ (id : List ℕ) {answer : IdValue} (asked : answer ≡ id_answer id) where
-    pub order_bad : {n : ℕ} → answer ≡ Refused n → no_order_for 12 ≡ order_asked (view b) id
+  module _ (id : List ℕ) {answer : Result ℕ Refusal} (asked : answer ≡ id_answer id) where
+    pub order_bad : {r : Refusal} → answer ≡ Err r → Err BadQuestion ≡ order_asked (view b) id
     unfolding order_asked
-    order_bad e = simp (sym (accepted_good id asked e))
+    order_bad e = simp (sym (accepted_good id asked) ∙ ap is_ok e)
 
-    module _ {key : ℕ} (value : answer ≡ Value key) {found : Found} (sought : found ≡ key_at key (take b.live b.keys)) where
+    pub order_refused : {r : Refusal} → answer ≡ Err r → Err r ≡ order_asked (view b) id
+    order_refused e = ap Err (answer_refused id asked e) ∙ order_bad e
+
+    module _ {key : ℕ} (value : answer ≡ Ok key) {found : Option ℕ} (sought : found ≡ key_at key (take b.live b.keys)) where
       good : good_id id ≡ true
-      good = sym (accepted_good id asked value)
+      good = sym (accepted_good id asked) ∙ ap is_ok value
 
       order_found : key_at (number_of id) (ids_of (view b).orders) ≡ found
       order_found =
@@ -57,30 +55,30 @@ module _ (b : Book) (kept : Kept b) where
           (sought
           ∙ ap₂ key_at (answer_value id asked value) (front_keys 256 (ids_of (view b).orders) (keys_are b kept.same) (live_is b kept.same ∙ sym (length-map (view b).orders (λ o. o.id)))))
 
-      pub order_none : found ≡ Nothing → no_order_for 13 ≡ order_asked (view b) id
+      pub order_none : found ≡ None → Err NotThere ≡ order_asked (view b) id
       unfolding order_asked
       order_none e = simp (good, order_found ∙ e)
 
-      module _ {place : ℕ} (at : found ≡ At place) where
+      module _ {place : ℕ} (at : found ≡ Some place) where
         pub order_within : place < b.live
         order_within =
-            let e : key_at (number_of id) (ids_of (view b).orders) ≡ At place = order_found ∙ at in
+            let e : key_at (number_of id) (ids_of (view b).orders) ≡ Some place = order_found ∙ at in
             let r = key_below (number_of id) (ids_of (view b).orders) (ap is_at e) in
             let l : length (ids_of (view b).orders) ≡ b.live = length-map (view b).orders (λ o. o.id) ∙ sym (live_is b kept.same) in
-            subst (λ (n : ℕ). place < n) l (subst (λ (f : Found). place_found f < length (ids_of (view b).orders)) e r)
+            subst (λ (n : ℕ). place < n) l (subst (λ (f : Option ℕ). place_found f < length (ids_of (view b).orders)) e r)
 
-        pub order_known : ◌≡◌ {A = OrderReply} (record { reply = Known; order = get_or b.orders place blank }) (order_asked (view b) id)
+        pub order_known : ◌≡◌ {A = Result Order Refusal} (Ok (get_or b.orders place blank)) (order_asked (view b) id)
         unfolding order_asked
         order_known = simp (good, order_found ∙ at, order_at b kept.same place order_within)
 
   -- ---- the inside by symbol
 
   module _ (symbol : List ℕ) where
-    pub inside_bad : good_symbol symbol ≡ false → no_inside_for 12 ≡ inside_asked (view b) symbol
+    pub inside_bad : good_symbol symbol ≡ false → Err BadQuestion ≡ inside_asked (view b) symbol
     unfolding inside_for
     inside_bad e = simp e
 
-    module _ (good : good_symbol symbol ≡ true) {found : Found} (sought : found ≡ symbol_at symbol (take b.held b.fronts) (take b.held b.backs)) where
+    module _ (good : good_symbol symbol ≡ true) {found : Option ℕ} (sought : found ≡ symbol_at symbol (take b.held b.fronts) (take b.held b.backs)) where
       abbrev xs : List Inside
       xs = (view b).insides
 
@@ -92,23 +90,23 @@ module _ (b : Book) (kept : Kept b) where
           (front_keys 64 (fronts_of xs) (fronts_are b kept.same) (held-is b kept.same ∙ sym (length-map xs (λ i. front_of i.symbol))))
           (front_keys 64 (backs_of xs) (backs_are b kept.same) (held-is b kept.same ∙ sym (length-map xs (λ i. back_of i.symbol)))))
 
-      pub inside_none : found ≡ Nothing → no_inside_for 13 ≡ inside_asked (view b) symbol
+      pub inside_none : found ≡ None → Err NotThere ≡ inside_asked (view b) symbol
       unfolding inside_for
       inside_none e = simp (good, inside_found ∙ e)
 
-      module _ {place : ℕ} (at : found ≡ At place) where
+      module _ {place : ℕ} (at : found ≡ Some place) where
         pub inside_within : place < b.held
         inside_within =
-            let e : symbol_at symbol (fronts_of xs) (backs_of xs) ≡ At place = inside_found ∙ at in
+            let e : symbol_at symbol (fronts_of xs) (backs_of xs) ≡ Some place = inside_found ∙ at in
             let r = symbol_below symbol xs (ap is_at e) in
-            rw (held-is b kept.same) (subst (λ (f : Found). place_found f < length xs) e r)
+            rw (held-is b kept.same) (subst (λ (f : Option ℕ). place_found f < length xs) e r)
 
         inside_at_lem : get_or b.insides place gone ≡ get_or xs place gone
         inside_at_lem =
             let small : place < length xs = rw (held-is b kept.same) at inside_within in
             ap (λ (l : List Inside). get_or l place gone) (insides_are b kept.same) ∙ get_places 64 no_inside xs place gone small
 
-        pub inside_known : ◌≡◌ {A = InsideReply} (record { reply = Known; inside = get_or b.insides place gone }) (inside_asked (view b) symbol)
+        pub inside_known : ◌≡◌ {A = Result Inside Refusal} (Ok (get_or b.insides place gone)) (inside_asked (view b) symbol)
         unfolding inside_for
         inside_known = simp (good, inside_found ∙ at, inside_at_lem)
 
@@ -189,7 +187,7 @@ unfolding reply_with
 same_reply true symbol side orders live due all = ap (reply_with true) (all ∙ ap (λ (m : ℕ). best_in symbol side (take m orders)) due)
 same_reply false symbol side orders live due all = refl
 
-pub best_reply : (symbol : List ℕ) (side : ℕ) (orders : List Order) (live : ℕ) {good : Bool} {n : ℕ} {level : Level} {r : BestReply}
+pub best_reply : (symbol : List ℕ) (side : ℕ) (orders : List Order) (live : ℕ) {good : Bool} {n : ℕ} {level : Level} {r : Result Level Refusal}
     → good ≡ (good_symbol symbol && good_side side)
     → n ≡ cond good live 0
     → level ≡ best_in symbol side (take n orders)

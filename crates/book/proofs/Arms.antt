@@ -8,6 +8,8 @@ use Prim.Native.Nat.{ℕ, ◌-◌, ◌≤◌}
 use native.Mathlib.Omega.{arith}
 use borrow.Author.Tests.{leb-true, ne_eqb}
 use lib.Dec.{eqb, leb, ltb}
+use Rattle.std.specs.Prelude.{Option}
+use Rattle.book.specs.declared.deciding.Reason.TheVariants as why
 use Rattle.wire.specs.Choice.{first_of}
 use Rattle.wire.specs.Number.{part}
 use Rattle.fields.specs.Id.{good_id, is_value, number_of}
@@ -30,7 +32,6 @@ use Rattle.fields.proofs.Tests.{and_left, and_right}
 use Rattle.message.proofs.Cases.{Unopened, unopened}
 use Rattle.book.specs.Lookup.{is_at, place_found}
 use Rattle.book.specs.Applying.{Seen, message_in, effect_of, execution_of, is_listed, unlisted_under}
-use Rattle.book.specs.declared.lookup.Found.{Found}
 use Rattle.book.specs.declared.deciding.Effect.{Effect}
 use Rattle.book.specs.declared.tables.OpeningRule.{OpeningRule}
 use Rattle.book.specs.declared.deciding.Effect.TheVariants.{Put, Replace, Remove, Renew, Enter, Record, Unchanged, Fault}
@@ -38,19 +39,19 @@ use Rattle.book.proofs.Types.{no}
 
 module _ (s : List ℕ) (seen : Seen) where
   pub session_is : {fields : TradingSessionFields} {broken : ℕ} → fields ≡ trading_session_in (row_in layouts.trading_session s) → broken ≡ broken_by 20 (good_session fields.session ∷ [])
-      → first_of ((not (eqb broken 0), Fault 2) ∷ []) (Record fields.session) ≡ effect_of seen (fields_of 20 s)
+      → first_of ((not (eqb broken 0), Fault why.RuleBroken) ∷ []) (Record fields.session) ≡ effect_of seen (fields_of 20 s)
   unfolding effect_of fields_of message_of layout_of payload_of broken_of
   session_is read b = rw (b, read)
 
   pub trade-is : {fields : TradeFields} {broken : ℕ} → fields ≡ trade_in (row_in layouts.trade s)
       → broken ≡ broken_by 27 (good_trade_side fields.deal.side ∷ good_quantity fields.deal.quantity ∷ good_symbol fields.deal.symbol ∷ good_price fields.deal.price ∷ [])
-      → first_of ((not (eqb broken 0), Fault 2) ∷ []) Unchanged ≡ effect_of seen (fields_of 27 s)
+      → first_of ((not (eqb broken 0), Fault why.RuleBroken) ∷ []) Unchanged ≡ effect_of seen (fields_of 27 s)
   unfolding effect_of fields_of message_of layout_of payload_of broken_of
   trade-is read b = rw (b, read)
 
-  pub top-is : {inside : Found} {held : ℕ} → seen.inside ≡ inside → seen.held ≡ held → {fields : TopFields} {broken : ℕ} → fields ≡ top_in (row_in layouts.top s)
+  pub top-is : {inside : Option ℕ} {held : ℕ} → seen.inside ≡ inside → seen.held ≡ held → {fields : TopFields} {broken : ℕ} → fields ≡ top_in (row_in layouts.top s)
       → broken ≡ broken_by 26 (good_symbol fields.symbol ∷ good_inside_price fields.ask.price ∷ good_inside_price fields.bid.price ∷ good_unsolicited fields.unsolicited ∷ [])
-      → first_of ((not (eqb broken 0), Fault 2) ∷ (not (is_at inside) && leb 64 held, Fault 8) ∷ []) (cond (is_at inside) (Renew (place_found inside)) Enter)
+      → first_of ((not (eqb broken 0), Fault why.RuleBroken) ∷ (not (is_at inside) && leb 64 held, Fault why.InsidesFull) ∷ []) (cond (is_at inside) (Renew (place_found inside)) Enter)
       ≡ effect_of seen (fields_of 26 s)
   unfolding effect_of fields_of message_of layout_of payload_of broken_of
   top-is i h read b = rw (b, read, sym i, sym h)
@@ -60,21 +61,21 @@ module _ (s : List ℕ) (seen : Seen) where
     named_good : named ≡ good_id (part s 7 14)
     named_good = asked ∙ value_good (part s 7 14) value
 
-    module _ {order : Found} (o : seen.order ≡ order) where
+    module _ {order : Option ℕ} (o : seen.order ≡ order) where
       pub add_is : {live : ℕ} → seen.live ≡ live → {fields : AddFields} {broken : ℕ} → fields ≡ add_in (row_in layouts.add s)
           → broken ≡ broken_by 21 (named ∷ good_side fields.deal.side ∷ good_quantity fields.deal.quantity ∷ good_symbol fields.deal.symbol ∷ good_price fields.deal.price ∷ good_unsolicited fields.unsolicited ∷ [])
-          → first_of ((not (eqb broken 0), Fault 2) ∷ (is_at order, Fault 3) ∷ (leb 256 live, Fault 4) ∷ []) Put ≡ effect_of seen (fields_of 21 s)
+          → first_of ((not (eqb broken 0), Fault why.RuleBroken) ∷ (is_at order, Fault why.AlreadyLive) ∷ (leb 256 live, Fault why.OrdersFull) ∷ []) Put ≡ effect_of seen (fields_of 21 s)
       unfolding effect_of fields_of message_of layout_of payload_of broken_of
       add_is l read b = rw (b, named_good, read, sym o, sym l)
 
       pub update-is : {fields : UpdateFields} {broken : ℕ} → fields ≡ update_in (row_in layouts.update s)
           → broken ≡ broken_by 22 (named ∷ good_quantity fields.quantity ∷ good_price fields.price ∷ [])
-          → first_of ((not (eqb broken 0), Fault 2) ∷ (not (is_at order), Fault 5) ∷ []) (Replace (place_found order) fields.quantity fields.price) ≡ effect_of seen (fields_of 22 s)
+          → first_of ((not (eqb broken 0), Fault why.RuleBroken) ∷ (not (is_at order), Fault why.NotLive) ∷ []) (Replace (place_found order) fields.quantity fields.price) ≡ effect_of seen (fields_of 22 s)
       unfolding effect_of fields_of message_of layout_of payload_of broken_of
       update-is read b = rw (b, named_good, read, sym o)
 
       pub delete-is : {broken : ℕ} → broken ≡ broken_by 23 (named ∷ [])
-          → first_of ((not (eqb broken 0), Fault 2) ∷ (not (is_at order), Fault 5) ∷ []) (Remove (place_found order)) ≡ effect_of seen (fields_of 23 s)
+          → first_of ((not (eqb broken 0), Fault why.RuleBroken) ∷ (not (is_at order), Fault why.NotLive) ∷ []) (Remove (place_found order)) ≡ effect_of seen (fields_of 23 s)
       unfolding effect_of fields_of message_of layout_of payload_of broken_of
       delete-is b = rw (b, named_good, sym o)
 
@@ -82,10 +83,10 @@ module _ (s : List ℕ) (seen : Seen) where
         abbrev judged : ℕ → ℕ → ℕ → Effect
         judged broken executed remaining =
             first_of
-            ((not (eqb broken 0), Fault 2)
-            ∷ (not (is_at order), Fault 5)
-            ∷ (ltb shares executed, Fault 6)
-            ∷ (not (eqb remaining (shares - executed)), Fault 7)
+            ((not (eqb broken 0), Fault why.RuleBroken)
+            ∷ (not (is_at order), Fault why.NotLive)
+            ∷ (ltb shares executed, Fault why.ExecutedTooMuch)
+            ∷ (not (eqb remaining (shares - executed)), Fault why.WrongRemaining)
             ∷ [])
             (execution_of order shares price executed)
 

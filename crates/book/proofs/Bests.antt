@@ -9,11 +9,12 @@ use native.Mathlib.Nat.{le_refl}
 use native.Mathlib.Omega.{arith}
 use borrow.Author.Tests.{ne_eqb, eq-eqb, eqb-true, eqb-false, ltb-true, ltb-false, lt-ltb, le-ltb, not-true, not-false}
 use lib.Dec.{eqb, ltb}
+use Rattle.std.specs.Prelude.{Err, Ok}
+use Rattle.refusals.specs.declared.Refusal.TheVariants.{NotThere}
 use Rattle.fields.proofs.Tests.{and_left, and_right}
-use Rattle.book.specs.Asking.{better, is_of, count, sum, at_price, beats, Best, alone, together, joined, best_in, no_level_for, best_asked, best_for, reply_with}
+use Rattle.book.specs.Asking.{better, is_of, count, sum, at_price, beats, Best, alone, together, joined, best_in, best_asked, best_for, reply_with}
 use Rattle.fields.specs.Rules.{good_symbol, good_side}
 use Rattle.book.specs.Tables.{Tables}
-use Rattle.book.specs.declared.asking.Reply.TheVariants.{Known}
 use Rattle.book.specs.declared.tables.Order.{Order}
 use Rattle.book.specs.declared.asking.Level.{Level}
 use Rattle.book.proofs.Types.{no, pick, split}
@@ -231,7 +232,7 @@ module _ (symbol : List ℕ) (side : ℕ) where
   -- ---- the answer in the customer's words
 
   module _ (t : Tables) (good : (good_symbol symbol && good_side side) ≡ true) where
-    pub best_answer : (l : Level) → Best symbol side t.orders l → best_asked t symbol side ≡ record { reply = Known; level = l }
+    pub best_answer : (l : Level) → Best symbol side t.orders l → best_asked t symbol side ≡ Ok l
     unfolding best_for reply_with
     best_answer l b =
         let some : (best_in symbol side t.orders).orders ≢ 0 = λ e. none_best t.orders l (best_empty t.orders e) b in
@@ -239,6 +240,6 @@ module _ (symbol : List ℕ) (side : ℕ) where
         let filled-l : l.orders ≢ 0 = λ e. omega (arith, b.some, b.orders) in
         simp (good, same, ne_eqb _ _ filled-l)
 
-    pub best_none_live : count (is_of symbol side) t.orders ≡ 0 → best_asked t symbol side ≡ no_level_for 13
+    pub best_none_live : count (is_of symbol side) t.orders ≡ 0 → best_asked t symbol side ≡ Err NotThere
     unfolding best_for reply_with
     best_none_live zero = simp (good, eq-eqb _ _ (empty_best t.orders zero))

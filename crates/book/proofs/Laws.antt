@@ -8,6 +8,9 @@ use Prim.Native.Nat.{ℕ, ◌+◌, ◌≤◌}
 use native.Mathlib.Omega.{arith}
 use borrow.Author.Tests.{ne_eqb}
 use lib.Dec.{eqb}
+use Rattle.book.specs.declared.deciding.Reason.TheVariants as why
+use Rattle.book.specs.declared.deciding.Reason.{Reason}
+use Rattle.book.specs.Reasons.{reason_number}
 use Rattle.message.specs.Layouts.{type_in}
 use Rattle.message.specs.Table.{payload_of}
 use Rattle.message.specs.declared.kinds.Message.{Message}
@@ -25,9 +28,9 @@ use Rattle.book.proofs.Types.{no, pick, type_kept}
 
 -- ---- a fault
 
-module _ (t : Tables) (number : ℕ) (s : List ℕ) {reason : ℕ} (fault : effect_in t s ≡ Fault reason) where
+module _ (t : Tables) (number : ℕ) (s : List ℕ) {reason : Reason} (fault : effect_in t s ≡ Fault reason) where
   -- all that a fault does
-  pub fault_only : apply_of t number s ≡ with_faults t (faulted t.faults number reason)
+  pub fault_only : apply_of t number s ≡ with_faults t (faulted t.faults number (reason_number reason))
   unfolding apply_of
   fault_only = ap (carried t number (message_in s)) fault
 
@@ -70,7 +73,7 @@ module _ (t : Tables) (number : ℕ) (s : List ℕ) where
   default_doubts e h = ap (λ (u : Tables). doubtful u.faults) (default_apart e h)
 
   -- fault 1 is given under the strict rule only
-  pub one_strict : effect_in t s ≡ Fault 1 → is_strict rule ≡ true
+  pub one_strict : effect_in t s ≡ Fault why.Unlisted → is_strict rule ≡ true
   unfolding seen_of
   one_strict e = (tells seen (message_in s) e).1 refl
 

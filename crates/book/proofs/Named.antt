@@ -4,11 +4,11 @@ use mathlib.Core.Path.{◌≡◌, refl, ap, ◌∙◌, sym, subst}
 use mathlib.Core.Logic.{◌≢◌, ◌⊎◌, ⊎_elim}
 use mathlib.Core.Bool.{Bool, true, false, cond, ◌&&◌}
 use mathlib.Core.List.{List}
-use mathlib.Core.Option.{Option, none, some}
 use Prim.Native.Nat.{ℕ, ◌-◌}
 use borrow.Author.Tests.{eq-eqb, ne_eqb, eqb-true, not-false}
 use lib.Dec.{eqb, leb}
 use lib.ListN.{length, get_or}
+use Rattle.std.specs.Prelude.{None, Option, Some}
 use Rattle.fields.specs.Id.{number_of}
 use Rattle.wire.specs.Layout.{number_in}
 use Rattle.wire.specs.Number.{Bytes}
@@ -34,9 +34,9 @@ use Rattle.book.proofs.Under.{at_inside, at_order, one_inside, one_order}
 
 -- the order, and the inside, that the message names, behind an effect
 abbrev pub order_behind : Message → Effect → Option Order → Option Order
-order_behind m Put old = some (order_of m)
+order_behind m Put old = Some (order_of m)
 order_behind m (Replace place shares price) old = order_updated shares price old
-order_behind m (Remove place) old = none
+order_behind m (Remove place) old = None
 order_behind m (Renew place) old = old
 order_behind m Enter old = old
 order_behind m (Record code) old = old
@@ -48,16 +48,16 @@ abbrev pub inside_behind : Message → Effect → Option Inside → Option Insid
 inside_behind m Put old = old
 inside_behind m (Replace place shares price) old = old
 inside_behind m (Remove place) old = old
-inside_behind m (Renew place) old = some (inside_of m)
-inside_behind m Enter old = some (inside_of m)
+inside_behind m (Renew place) old = Some (inside_of m)
+inside_behind m Enter old = Some (inside_of m)
 inside_behind m (Record code) old = old
 inside_behind m Unchanged old = old
 inside_behind m (Fault reason) old = old
 inside_behind m CountApart old = old
 
 -- what an execution makes of an order that is there
-execution-is : (n : ℕ) (o : Order) (b : Bool) → eqb (o.shares - n) 0 ≡ b → {old : Option Order} → old ≡ some o → order_executed n old ≡ cond b none (some (repriced o (o.shares - n) o.price))
-execution-is n o b z e = ap (order_executed n) e ∙ ap (λ (c : Bool). cond c none (some (repriced o (o.shares - n) o.price))) z
+execution-is : (n : ℕ) (o : Order) (b : Bool) → eqb (o.shares - n) 0 ≡ b → {old : Option Order} → old ≡ Some o → order_executed n old ≡ cond b None (Some (repriced o (o.shares - n) o.price))
+execution-is n o b z e = ap (order_executed n) e ∙ ap (λ (c : Bool). cond c None (Some (repriced o (o.shares - n) o.price))) z
 
 module _ (t : Tables) (sound : Sound t) (number : ℕ) (s : List ℕ) where
   abbrev m : Message
@@ -73,7 +73,7 @@ module _ (t : Tables) (sound : Sound t) (number : ℕ) (s : List ℕ) where
   abbrev topic : List ℕ
   topic = topic_of m
 
-  order_there : {place : ℕ} → AtOrder seen place → order_under t key ≡ some (get_or t.orders place blank)
+  order_there : {place : ℕ} → AtOrder seen place → order_under t key ≡ Some (get_or t.orders place blank)
   unfolding order_under
   order_there {place} a = there blank (has_id key) t.orders (one_order sound key) place (at_order t m a).0 (at_order t m a).1
 
@@ -254,14 +254,14 @@ module _ (t : Tables) (sound : Sound t) (number : ℕ) (s : List ℕ) where
         (λ one g three four five six eight h. ap is_there (order_there (record { there = not-false _ (right (names type) _ e five); place = refl }))) ok
 
     -- "Add makes an order", of an id that named none
-    pub add_new : type ≡ 21 → order_under t key ≡ none
+    pub add_new : type ≡ 21 → order_under t key ≡ None
     unfolding order_under
     add_new e =
         let put : change_of seen m ≡ Put = rw e in
         let c = tells seen m (unfaulted seen m ok ∙ put) in
         nowhere blank (has_id key) t.orders (absent_order t sound s number c.0 c.1)
 
-    pub add_makes : type ≡ 21 → order_under (apply_of t number s) key ≡ some (order_of m)
+    pub add_makes : type ≡ 21 → order_under (apply_of t number s) key ≡ Some (order_of m)
     add_makes e = order_named ok ∙ rw e
 
     -- "Update replaces shares and price"
@@ -269,7 +269,7 @@ module _ (t : Tables) (sound : Sound t) (number : ℕ) (s : List ℕ) where
     update_replaces e = order_named ok ∙ rw e
 
     -- "Delete removes"
-    pub delete_removes : type ≡ 23 → order_under (apply_of t number s) key ≡ none
+    pub delete_removes : type ≡ 23 → order_under (apply_of t number s) key ≡ None
     delete_removes e = order_named ok ∙ rw e
 
     -- "24 and 25 subtract executed, and at zero the order leaves"
@@ -277,7 +277,7 @@ module _ (t : Tables) (sound : Sound t) (number : ℕ) (s : List ℕ) where
     execution_subtracts e = order_named ok ∙ ⊎_elim (λ (z : type ≡ 24). rw z) (λ (z : type ≡ 25). rw z) e
 
     -- "26 replaces that symbol's inside, all seven fields"
-    pub top_replaces : type ≡ 26 → inside_under (apply_of t number s) topic ≡ some (inside_of m)
+    pub top_replaces : type ≡ 26 → inside_under (apply_of t number s) topic ≡ Some (inside_of m)
     top_replaces e = inside_named ok topic (bytes_same topic topic refl) ∙ rw e
 
   -- any type but 21 to 25 leaves every order, and any type but 26 every inside; so 20, 27, 28, 9, 11 and 12 leave both tables

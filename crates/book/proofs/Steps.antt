@@ -7,6 +7,9 @@ use Prim.Native.Nat.{ℕ, zero, suc, ◌+◌, ◌-◌, ◌≤◌, ◌<◌}
 use native.Mathlib.Omega.{arith}
 use lib.Dec.{lit<}
 use lib.ListN.{length, get_or, take, set, replicate, length-take, length-map}
+use Rattle.std.specs.Prelude.{None, Option, Some}
+use Rattle.book.specs.declared.deciding.Reason.{Reason}
+use Rattle.book.specs.Reasons.{reason_number}
 use Rattle.wire.specs.Number.{part}
 use Rattle.fields.specs.Id.{number_of}
 use Rattle.message.specs.Layouts.{layout_of, type_in}
@@ -17,8 +20,6 @@ use Rattle.message.specs.Whole.{Whole}
 use Rattle.book.specs.Applying.{Seen, Naming, message_in, topic_of, there_of, seen_of, effect_in, carried, apply_of, order_of, inside_of, faulted, counted_apart}
 use Rattle.book.specs.Rule.{Kept}
 use Rattle.message.specs.declared.kinds.Message.{Message}
-use Rattle.book.specs.declared.lookup.Found.{Found}
-use Rattle.book.specs.declared.lookup.Found.TheVariants.{At, Nothing}
 use Rattle.book.specs.declared.tables.Order.{Order}
 use Rattle.book.specs.declared.tables.Inside.{Inside}
 use Rattle.book.specs.declared.tables.Faults.{Faults}
@@ -60,13 +61,13 @@ module _ (f : Order → ℕ) (none : f no_order ≡ f blank) where
   unfolding places
   past xs i = past_from xs (256 - length xs) i
 
-found_any : (f : Found) (n : ℕ) → 0 < n → (is_at f ≡ true → place_found f < n) → place_found f < n
-found_any (At place) n h g = g refl
-found_any Nothing n h g = h
+found_any : (f : Option ℕ) (n : ℕ) → 0 < n → (is_at f ≡ true → place_found f < n) → place_found f < n
+found_any (Some place) n h g = g refl
+found_any None n h g = h
 
 module _ (b : Book) (s : List ℕ) (kept : Kept b) {key : ℕ} {topic : List ℕ}
     (value : key ≡ number_of (message_in s).id) (about : topic ≡ topic_of (message_in s))
-    {order inside : Found} (found : order ≡ key_at key (take b.live b.keys))
+    {order inside : Option ℕ} (found : order ≡ key_at key (take b.live b.keys))
     (looked : inside ≡ symbol_at topic (take b.held b.fronts) (take b.held b.backs))
     {at : ℕ} (place_is : at ≡ place_found order) where
   abbrev t : Tables
@@ -96,7 +97,7 @@ module _ (b : Book) (s : List ℕ) (kept : Kept b) {key : ℕ} {topic : List ℕ
       record { live = live_is b kept.same i; order = order_seen_lem i; shares = there_seen (λ o. o.shares) refl i; price = there_seen (λ o. o.price) refl i; held = held-is b kept.same i; inside = inside_seen i; rule = b.unlisted.rule }
 
 -- the look-up's place is one of the book's
-pub found_within : (keys : List ℕ) (live key : ℕ) {order : Found} {at : ℕ} → live ≤ 256 → order ≡ key_at key (take live keys) → at ≡ place_found order → at < 256
+pub found_within : (keys : List ℕ) (live key : ℕ) {order : Option ℕ} {at : ℕ} → live ≤ 256 → order ≡ key_at key (take live keys) → at ≡ place_found order → at < 256
 found_within keys live key fits found place_is =
     let xs = take live keys in
     let few : length xs ≤ live = simp length-take (omega arith) in
@@ -224,7 +225,7 @@ module _ {b : Book} {s : List ℕ} {key : ℕ} {topic : List ℕ} {e : Effect} (
   pub unchanged_done : (number : ℕ) → e ≡ Unchanged → b ≡ rep (apply_of (view b) number s)
   unchanged_done number h = d.kept.same ∙ done number h
 
-  pub fault_done : (number : ℕ) {reason : ℕ} {more : Faults} → e ≡ Fault reason → more ≡ faulted b.faults number reason
+  pub fault_done : (number : ℕ) {reason : Reason} {more : Faults} → e ≡ Fault reason → more ≡ faulted b.faults number (reason_number reason)
       → ◌≡◌ {A = Book} (holding_marks b b.code more)
       (rep (apply_of (view b) number s))
   fault_done number h is = rw is (marked_rep b d.kept.same b.code _ ∙ done number h)

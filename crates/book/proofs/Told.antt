@@ -7,6 +7,8 @@ use Prim.Native.Nat.{ℕ, ◌-◌, ◌≤◌, ◌<◌}
 use native.Mathlib.Omega.{arith}
 use borrow.Author.Tests.{eqb-true, eqb-false, leb-false, not-false}
 use lib.Dec.{eqb, leb, ltb}
+use Rattle.book.specs.declared.deciding.Reason.TheVariants as why
+use Rattle.book.specs.declared.deciding.Reason.{Reason}
 use Rattle.wire.specs.Layout.{number_in}
 use Rattle.fields.proofs.Tests.{and_right}
 use Rattle.message.specs.Row.{type_of, row_of}
@@ -63,7 +65,7 @@ Change seen m (Renew place) = Held seen m place
 Change seen m Enter = Entered seen m
 Change seen m (Record code) = Coded m code
 Change seen m Unchanged = Unit {0}
-Change seen m (Fault reason) = reason ≡ 1 → is_strict seen.rule ≡ true
+Change seen m (Fault reason) = reason ≡ why.Unlisted → is_strict seen.rule ≡ true
 Change seen m CountApart = (is_listed (type_of m) ≡ false) × (is_strict seen.rule ≡ false)
 
 -- a change that is no fault comes of a message that breaks no rule
@@ -125,7 +127,7 @@ module _ (seen : Seen) (m : Message) where
         λ f. pick Told (is_listed type) (λ e. (good, tt)) (λ e. (good, (e, right (not (is_listed type)) (is_strict seen.rule) (ap not e) one)))
 
   -- by the faults, one after the other: what holds of a fault, the first under the strict rule only, and of the change where no fault holds
-  pub by_faults : (P : Effect → Type 0) → ((reason : ℕ) → (reason ≡ 1 → is_strict seen.rule ≡ true) → P (Fault reason))
+  pub by_faults : (P : Effect → Type 0) → ((reason : Reason) → (reason ≡ why.Unlisted → is_strict seen.rule ≡ true) → P (Fault reason))
       → ((not (is_listed type) && is_strict seen.rule) ≡ false
       → good_message m ≡ true
       → (eqb type 21 && is_at seen.order) ≡ false
@@ -137,14 +139,14 @@ module _ (seen : Seen) (m : Message) where
       → P (effect_of seen m)
   unfolding effect_of
   by_faults P fault rest =
-      pick P (not (is_listed type) && is_strict seen.rule) (λ e. fault 1 (λ z. and_right (not (is_listed type)) (is_strict seen.rule) e))
-      λ f1. pick P (not (good_message m)) (λ e. fault 2 (λ z. absurd (omega arith)))
-      λ f2. pick P (eqb type 21 && is_at seen.order) (λ e. fault 3 (λ z. absurd (omega arith)))
-      λ f3. pick P (eqb type 21 && leb 256 seen.live) (λ e. fault 4 (λ z. absurd (omega arith)))
-      λ f4. pick P (names type && not (is_at seen.order)) (λ e. fault 5 (λ z. absurd (omega arith)))
-      λ f5. pick P (executes type && ltb seen.shares (number_in (row_of m) 2)) (λ e. fault 6 (λ z. absurd (omega arith)))
-      λ f6. pick P (executes type && not (eqb (number_in (row_of m) 3) (seen.shares - number_in (row_of m) 2))) (λ e. fault 7 (λ z. absurd (omega arith)))
-      λ f7. pick P (eqb type 26 && (not (is_at seen.inside) && leb 64 seen.held)) (λ e. fault 8 (λ z. absurd (omega arith)))
+      pick P (not (is_listed type) && is_strict seen.rule) (λ e. fault why.Unlisted (λ z. and_right (not (is_listed type)) (is_strict seen.rule) e))
+      λ f1. pick P (not (good_message m)) (λ e. fault why.RuleBroken (λ z. cc))
+      λ f2. pick P (eqb type 21 && is_at seen.order) (λ e. fault why.AlreadyLive (λ z. cc))
+      λ f3. pick P (eqb type 21 && leb 256 seen.live) (λ e. fault why.OrdersFull (λ z. cc))
+      λ f4. pick P (names type && not (is_at seen.order)) (λ e. fault why.NotLive (λ z. cc))
+      λ f5. pick P (executes type && ltb seen.shares (number_in (row_of m) 2)) (λ e. fault why.ExecutedTooMuch (λ z. cc))
+      λ f6. pick P (executes type && not (eqb (number_in (row_of m) 3) (seen.shares - number_in (row_of m) 2))) (λ e. fault why.WrongRemaining (λ z. cc))
+      λ f7. pick P (eqb type 26 && (not (is_at seen.inside) && leb 64 seen.held)) (λ e. fault why.InsidesFull (λ z. cc))
       λ f8. rest f1 (not-false _ f2) f3 f4 f5 f6 f8
 
   pub told : Good m (effect_of seen m) × Change seen m (effect_of seen m)

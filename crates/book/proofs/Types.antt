@@ -12,8 +12,9 @@ use lib.ListN.{length}
 use Rattle.wire.specs.Number.{part}
 use Rattle.fields.specs.Tests.{between}
 use Rattle.fields.specs.Id.{good_id, value_of, no_value, number_of, id_answer}
-use Rattle.fields.specs.declared.id.IdValue.{IdValue}
-use Rattle.fields.specs.declared.id.IdValue.TheVariants.{Value, Refused}
+use Rattle.std.specs.Prelude.{Result, Ok, Err}
+use Rattle.refusals.specs.declared.Refusal.{Refusal}
+use Rattle.refusals.specs.declared.Refusal.TheVariants.{BadQuestion}
 use Rattle.message.proofs.Cases.{room}
 use Rattle.message.specs.Layouts.{layout_of, type_in}
 use Rattle.message.specs.Row.{no_text, fields_of, message_of, type_of}
@@ -35,13 +36,22 @@ no e = let z : ◌≡◌ {A = ℕ} 0 1 = ap (λ (b : Bool). cond b 1 0) e in abs
 pub valued : (id : List ℕ) → good_id id ≡ true → number_of id ≢ no_value
 valued id good e = no (ap not (sym (eq-eqb _ _ e)) ∙ value_good id refl ∙ good)
 
-answer_cases : (id : List ℕ) (b : Bool) {v : ℕ} → cond b (Value (value_of 12 id)) (Refused 12) ≡ Value v → v ≡ cond b (value_of 12 id) no_value
+answer_cases : (id : List ℕ) (b : Bool) {v : ℕ} → cond b (Ok (value_of 12 id)) (Err BadQuestion) ≡ Ok v → v ≡ cond b (value_of 12 id) no_value
 answer_cases id true e = cc
 answer_cases id false e = let z : ◌≡◌ {A = ℕ} 0 1 = cc in absurd (omega arith)
 
-pub answer_value : (id : List ℕ) {answer : IdValue} {v : ℕ} → answer ≡ id_answer id → answer ≡ Value v → v ≡ number_of id
+pub answer_value : (id : List ℕ) {answer : Result ℕ Refusal} {v : ℕ} → answer ≡ id_answer id → answer ≡ Ok v → v ≡ number_of id
 unfolding id_answer number_of
 answer_value id is e = answer_cases id (good_id id) (sym is ∙ e)
+
+refused_cases : (id : List ℕ) (b : Bool) {r : Refusal} → ◌≡◌ {A = Result ℕ Refusal} (cond b (Ok (value_of 12 id)) (Err BadQuestion)) (Err r) → r ≡ BadQuestion
+refused_cases id true e = cc
+refused_cases id false e = cc
+
+-- an id is refused for its rule alone
+pub answer_refused : (id : List ℕ) {answer : Result ℕ Refusal} {r : Refusal} → answer ≡ id_answer id → answer ≡ Err r → r ≡ BadQuestion
+unfolding id_answer
+answer_refused id is e = refused_cases id (good_id id) (sym is ∙ e)
 
 -- ---- the types that name an order
 

@@ -5,12 +5,13 @@ use mathlib.Core.Path.{◌≡◌, refl, ap, ap₂, ◌∙◌, sym, subst}
 use mathlib.Core.Logic.{◌≢◌}
 use mathlib.Core.Bool.{Bool, true, false, cond, not, ◌&&◌}
 use mathlib.Core.List.{List, [], ◌∷◌}
-use mathlib.Core.Option.{some}
 use Prim.Native.Nat.{ℕ, suc, ◌<◌}
 use native.Mathlib.Omega.{arith}
 use borrow.Author.Tests.{eq-eqb, eqb-true}
 use lib.Dec.{eqb}
 use lib.ListN.{length, get_or, length-map, get_or-map}
+use Rattle.std.specs.Prelude.{Err, None, Ok, Option, Some}
+use Rattle.refusals.specs.declared.Refusal.TheVariants.{BadQuestion, NotThere}
 use Rattle.fields.specs.Id.{no_value, number_of, good_id}
 use Rattle.fields.specs.Rules.{good_symbol}
 use Rattle.book_index.proofs.Below.{order}
@@ -18,14 +19,11 @@ use Rattle.message.specs.declared.kinds.Message.{Message}
 use Rattle.book.specs.Lookup.{is_at, place_found, front_of, back_of, key_from, key_at, same_symbol, pair_from, symbol_at}
 use Rattle.book.specs.Tables.{Tables, blank, gone, ids_of, fronts_of, backs_of}
 use Rattle.book.specs.Applying.{Seen, message_in, topic_of, seen_of, inside_of}
-use Rattle.book.specs.Asking.{no_order_for, order_asked, no_inside_for, inside_asked, inside_for}
+use Rattle.book.specs.Asking.{order_asked, inside_asked, inside_for}
 use Rattle.book.specs.Named.{first_that, is_there, has_id, order_under, has_symbol, inside_under, order_reply, inside_reply}
 use Rattle.book.specs.Rule.{Sound}
-use Rattle.book.specs.declared.lookup.Found.{Found}
-use Rattle.book.specs.declared.lookup.Found.TheVariants.{At, Nothing}
 use Rattle.book.specs.declared.tables.Order.{Order}
 use Rattle.book.specs.declared.tables.Inside.{Inside}
-use Rattle.book.specs.declared.asking.Reply.TheVariants.{Known}
 use Rattle.book.proofs.Finding.{key_some, key_none, symbol_some, symbol_none}
 use Rattle.book.proofs.Keyed.{Nowhere, One, Says, says_here, says_on, says_map, pointed, said, said_at, said_none, there}
 use Rattle.book.proofs.Symbols.{fronted, fronts_same, backs_same, bytes_same}
@@ -77,38 +75,38 @@ symbol_below symbol xs h = (said_at gone (has_symbol symbol) xs (symbol_at symbo
 
 module _ (t : Tables) where
   -- by order id: the order of the id's value, or 12, or 13
-  pub order_answer : (id : List ℕ) → order_asked t id ≡ cond (good_id id) (order_reply (order_under t (number_of id))) (no_order_for 12)
+  pub order_answer : (id : List ℕ) → order_asked t id ≡ cond (good_id id) (order_reply (order_under t (number_of id))) (Err BadQuestion)
   unfolding order_asked order_under
   order_answer id = by (good_id id) refl
     where
-      asked : (f : Found) → first_that (has_id (number_of id)) t.orders ≡ pointed blank t.orders f
-          → cond (not (is_at f)) (no_order_for 13) (record { reply = Known; order = get_or t.orders (place_found f) blank }) ≡ order_reply (first_that (has_id (number_of id)) t.orders)
-      asked (At place) e = ap order_reply (sym e)
-      asked Nothing e = ap order_reply (sym e)
+      asked : (f : Option ℕ) → first_that (has_id (number_of id)) t.orders ≡ pointed blank t.orders f
+          → cond (not (is_at f)) (Err NotThere) (Ok (get_or t.orders (place_found f) blank)) ≡ order_reply (first_that (has_id (number_of id)) t.orders)
+      asked (Some place) e = ap order_reply (sym e)
+      asked None e = ap order_reply (sym e)
 
       by : (b : Bool) → good_id id ≡ b
-          → cond (not b) (no_order_for 12)
-          (cond (not (is_at (key_at (number_of id) (ids_of t.orders)))) (no_order_for 13) (record { reply = Known; order = get_or t.orders (place_found (key_at (number_of id) (ids_of t.orders))) blank }))
-          ≡ cond b (order_reply (first_that (has_id (number_of id)) t.orders)) (no_order_for 12)
+          → cond (not b) (Err BadQuestion)
+          (cond (not (is_at (key_at (number_of id) (ids_of t.orders)))) (Err NotThere) (Ok (get_or t.orders (place_found (key_at (number_of id) (ids_of t.orders))) blank)))
+          ≡ cond b (order_reply (first_that (has_id (number_of id)) t.orders)) (Err BadQuestion)
       by true good =
           let f = key_at (number_of id) (ids_of t.orders) in
           asked f (said blank (has_id (number_of id)) t.orders f (orders_say (number_of id) t.orders (valued id good)))
       by false bad = refl
 
   -- the inside by symbol: likewise
-  pub inside_answer : (symbol : List ℕ) → inside_asked t symbol ≡ cond (good_symbol symbol) (inside_reply (inside_under t symbol)) (no_inside_for 12)
+  pub inside_answer : (symbol : List ℕ) → inside_asked t symbol ≡ cond (good_symbol symbol) (inside_reply (inside_under t symbol)) (Err BadQuestion)
   unfolding inside_for inside_under
   inside_answer symbol = by (good_symbol symbol) refl
     where
-      asked : (f : Found) → first_that (has_symbol symbol) t.insides ≡ pointed gone t.insides f
-          → cond (not (is_at f)) (no_inside_for 13) (record { reply = Known; inside = get_or t.insides (place_found f) gone }) ≡ inside_reply (first_that (has_symbol symbol) t.insides)
-      asked (At place) e = ap inside_reply (sym e)
-      asked Nothing e = ap inside_reply (sym e)
+      asked : (f : Option ℕ) → first_that (has_symbol symbol) t.insides ≡ pointed gone t.insides f
+          → cond (not (is_at f)) (Err NotThere) (Ok (get_or t.insides (place_found f) gone)) ≡ inside_reply (first_that (has_symbol symbol) t.insides)
+      asked (Some place) e = ap inside_reply (sym e)
+      asked None e = ap inside_reply (sym e)
 
       by : (b : Bool) → good_symbol symbol ≡ b
-          → cond (not b) (no_inside_for 12)
-          (cond (not (is_at (symbol_at symbol (fronts_of t.insides) (backs_of t.insides)))) (no_inside_for 13) (record { reply = Known; inside = get_or t.insides (place_found (symbol_at symbol (fronts_of t.insides) (backs_of t.insides))) gone }))
-          ≡ cond b (inside_reply (first_that (has_symbol symbol) t.insides)) (no_inside_for 12)
+          → cond (not b) (Err BadQuestion)
+          (cond (not (is_at (symbol_at symbol (fronts_of t.insides) (backs_of t.insides)))) (Err NotThere) (Ok (get_or t.insides (place_found (symbol_at symbol (fronts_of t.insides) (backs_of t.insides))) gone)))
+          ≡ cond b (inside_reply (first_that (has_symbol symbol) t.insides)) (Err BadQuestion)
       by true good =
           let f = symbol_at symbol (fronts_of t.insides) (backs_of t.insides) in
           asked f (said gone (has_symbol symbol) t.insides f (insides_say symbol t.insides (fronted symbol good)))
@@ -116,9 +114,9 @@ module _ (t : Tables) where
 
 -- ---- what a message sees
 
-there_is : {A : Type 0} (d : A) (xs : List A) (f : Found) → is_there (pointed d xs f) ≡ is_at f
-there_is d xs (At place) = refl
-there_is d xs Nothing = refl
+there_is : {A : Type 0} (d : A) (xs : List A) (f : Option ℕ) → is_there (pointed d xs f) ≡ is_at f
+there_is d xs (Some place) = refl
+there_is d xs None = refl
 
 module _ (t : Tables) (m : Message) where
   abbrev seen : Seen
@@ -193,7 +191,7 @@ module _ {t : Tables} (sound : Sound t) where
       split i j (λ z. z) (λ n. absurd (order i j (λ less. two_orders k i j less l e f) (λ more. two_orders k j i (omega arith) h f e)))
 
   -- every live order is the one under its id
-  pub order_own : (i : ℕ) → i < length t.orders → order_under t (get_or t.orders i blank).id ≡ some (get_or t.orders i blank)
+  pub order_own : (i : ℕ) → i < length t.orders → order_under t (get_or t.orders i blank).id ≡ Some (get_or t.orders i blank)
   unfolding order_under
   order_own i h =
       let k = (get_or t.orders i blank).id in
@@ -219,7 +217,7 @@ module _ {t : Tables} (sound : Sound t) where
       split i j (λ z. z) (λ n. absurd (order i j (λ less. two_insides symbol i j less l e f) (λ more. two_insides symbol j i (omega arith) h f e)))
 
   -- every inside is the one under its symbol
-  pub inside_own : (i : ℕ) → i < length t.insides → inside_under t (get_or t.insides i gone).symbol ≡ some (get_or t.insides i gone)
+  pub inside_own : (i : ℕ) → i < length t.insides → inside_under t (get_or t.insides i gone).symbol ≡ Some (get_or t.insides i gone)
   unfolding inside_under
   inside_own i h =
       let symbol = (get_or t.insides i gone).symbol in

@@ -108,7 +108,12 @@ pub fn reply_with(good: bool, level: Level) -> Result<Level, Refusal>
     Ok(level)
 }
 
-pub fn best(orders: [Order; ORDERS], live: usize, symbol: [u8; 14], side: u8) -> Result<Level, Refusal>
+pub fn best(
+    orders: [Order; ORDERS],
+    live: usize,
+    symbol: [u8; 14],
+    side: u8,
+) -> Result<Level, Refusal>
     requires { (live ≤ 256) × (length orders ≡ 256) }
     ensures { result ≡ best_for (take live orders) symbol side }
 {

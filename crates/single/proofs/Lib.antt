@@ -1,7 +1,7 @@
 -- Laws of `single`'s definitions.
-pub mod Cases
 pub mod Giving
 pub mod Laying
 pub mod Returning
 pub mod Steps
 pub mod Taking
+pub mod Telling

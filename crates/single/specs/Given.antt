@@ -1,10 +1,10 @@
 -- A message given by its numbers, and what writing it answers.
 -- Assumes nothing.
-use Rattle.std.specs.Prelude.{Bool, false, cond, ◌||◌, List, [], ◌∷◌, ◌++◌, ℕ, suc, ◌+◌, ◌^◌, leb, get_or, length}
+use Rattle.std.specs.Prelude.{Bool, false, cond, ◌||◌, List, [], ◌∷◌, ◌++◌, ℕ, suc, ◌+◌, ◌^◌, leb, get_or, length, Result, Err}
+use Rattle.refusals.specs.declared.Refusal.{Refusal}
+use Rattle.refusals.specs.declared.Refusal.TheVariants.{RuleBroken}
 use Rattle.wire.specs.Layout.{Field, number, text, Value, number_is, text_is}
 use Rattle.wire.specs.Number.{be}
-use Rattle.wire.specs.declared.write.Written.{Written}
-use Rattle.wire.specs.declared.write.Written.TheVariants.{Refused}
 use Rattle.message.specs.Layouts.{layout_of}
 use Rattle.message.specs.Row.{message_of}
 use Rattle.message.specs.declared.kinds.Message.{Message}
@@ -42,8 +42,8 @@ unfoldable pub too_wide : List ℕ → Bool
 too_wide ns = leb 256 (type_given ns) || wide_from (widths_of (layout_of (type_given ns))) 1 ns
 
 -- then 14, and the buffer stays; else as the message is written
-unfoldable pub given_of : List ℕ → List ℕ → ℕ → Written
-given_of ns buf at = cond (too_wide ns) (Refused 14) (write_of (message_given ns) buf at)
+unfoldable pub given_of : List ℕ → List ℕ → ℕ → Result ℕ Refusal
+given_of ns buf at = cond (too_wide ns) (Err RuleBroken) (write_of (message_given ns) buf at)
 
 unfoldable pub given_buffer : List ℕ → List ℕ → ℕ → List ℕ
 given_buffer ns buf at = cond (too_wide ns) buf (buffer_after (message_given ns) buf at)

@@ -1,15 +1,13 @@
 -- The fields of a message as numbers of 1, 2, 4 or 8 bytes, in the order of its layout.
 -- Assumes nothing.
-use Rattle.std.specs.Prelude.{◌≡◌, cond, List, [], ◌∷◌, ◌++◌, ◌⊎◌, ℕ, ◌+◌, ◌≤◌, eqb, length, replicate, take}
+use Rattle.std.specs.Prelude.{◌≡◌, cond, List, [], ◌∷◌, ◌++◌, ◌⊎◌, ℕ, ◌+◌, ◌≤◌, eqb, length, replicate, take, Result}
+use Rattle.refusals.specs.declared.Refusal.{Refusal}
 use Rattle.wire.specs.Layout.{Field, number, text, Value, number_is, text_is}
 use Rattle.wire.specs.Number.{num, part}
 use Rattle.message.specs.Layouts.{layout_of}
 use Rattle.message.specs.Row.{row_of, type_of}
-use Rattle.message.specs.declared.answer.Reading.{Reading}
-use Rattle.message.specs.declared.answer.Verdict.{Verdict}
-use Rattle.message.specs.declared.answer.Verdict.TheVariants.{Accepted, Refused}
 use Rattle.message.specs.declared.kinds.Message.{Message}
-use Rattle.single.specs.Over.{over}
+use Rattle.single.specs.Told.{told_by}
 use Rattle.single.specs.declared.words.Words.{Words}
 
 -- a number is one; a text of 14 bytes is three, its first eight bytes, the next four and the last two; a shorter one is one
@@ -40,19 +38,8 @@ abbrev pub message_numbers : Message → List ℕ
 message_numbers m = type_of m ∷ numbers_of (row_of m)
 
 -- what reading answers; a refusal leaves what was lent
-abbrev pub verdict_refusal : Verdict → ℕ
-verdict_refusal Accepted = 0
-verdict_refusal (Refused why) = why
-
-abbrev pub message_refusal : Reading → ℕ
-message_refusal r = verdict_refusal r.verdict
-
-abbrev pub told_by : Verdict → Message → List ℕ → List ℕ
-told_by Accepted m old = over (message_numbers m) old
-told_by (Refused why) m old = old
-
-abbrev pub message_told : Reading → List ℕ → List ℕ
-message_told r old = told_by r.verdict r.message old
+abbrev pub message_told : Result Message Refusal → List ℕ → List ℕ
+message_told = told_by message_numbers
 
 -- ---- the widths of a type as an array has them
 

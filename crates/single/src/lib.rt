@@ -6,5 +6,6 @@
 pub mod headers;
 pub mod ids;
 pub mod messages;
+pub mod telling;
 pub mod walking;
 mod words;

@@ -5,12 +5,12 @@ ghost use Rattle.message.specs.Layouts.{layout_of, type_in};
 ghost use Rattle.message.specs.Reading.{read_of};
 ghost use Rattle.single.specs.Over.{over, over_from};
 ghost use Rattle.single.specs.Given.{bytes_from, given_buffer, given_of, wide_from};
-ghost use Rattle.single.specs.Told.{written_refusal, written_told};
-ghost use Rattle.single.specs.Words.{message_refusal, message_told, widths_by, widths_of, words_at, words_of, Laid};
+ghost use Rattle.refusals.specs.Refusals.{refusal_in};
+ghost use Rattle.single.specs.Told.{number_told};
+ghost use Rattle.single.specs.Words.{message_told, widths_by, widths_of, words_at, words_of, Laid};
 
+use crate::telling;
 use crate::words::{Words, number_at, put_number, too_wide, words_of};
-use message::Verdict;
-use wire::Written;
 
 fn tell_fields(s: &[u8], words: Words, told: &mut [u64; 14])
     requires { Laid words (length s.now) }
@@ -39,17 +39,15 @@ fn tell(s: &[u8], told: &mut [u64; 14])
 
 // The message that the bytes are: its type, then its fields in their order; of 28 and unlisted types the type alone.
 pub fn read(bytes: &[u8], told: &mut [u64; 14]) -> u64
-    ensures refusal { result ≡ message_refusal (read_of bytes.now) }
+    ensures refusal { result ≡ refusal_in (read_of bytes.now) }
     ensures told { told.new ≡ message_told (read_of bytes.now) told.old }
 {
-    let reading = message_read::read(bytes);
-    let verdict = reading.verdict;
-    match verdict {
-        Verdict::Accepted => {
+    match message_read::read(bytes) {
+        Ok(_) => {
             tell(bytes, told);
             0
         }
-        Verdict::Refused(number) => number as u64,
+        Err(refusal) => refusal.number() as u64,
     }
 }
 
@@ -74,25 +72,12 @@ fn fill(numbers: &[u64; 14], words: Words, bytes: &mut [u8]) -> bool
     false
 }
 
-fn tell_count(written: Written, told: &mut [u64; 1]) -> u64
-    ensures refusal { result ≡ written_refusal written }
-    ensures told { told.new ≡ written_told written told.old }
-{
-    match written {
-        Written::Count(count) => {
-            told[0] = count as u64;
-            0
-        }
-        Written::Refused(number) => number as u64,
-    }
-}
-
 // The message of such numbers, at a place in a buffer; told is how many bytes it has. A number that does not fit in its
 // field is refused with 14.
 pub fn write(numbers: &[u64; 14], buf: &mut [u8], at: usize, told: &mut [u64; 1]) -> u64
-    ensures refusal { result ≡ written_refusal (given_of numbers.now buf.old at) }
+    ensures refusal { result ≡ refusal_in (given_of numbers.now buf.old at) }
     ensures buffer { buf.new ≡ given_buffer numbers.now buf.old at }
-    ensures told { told.new ≡ written_told (given_of numbers.now buf.old at) told.old }
+    ensures told { told.new ≡ number_told (given_of numbers.now buf.old at) told.old }
 {
     let first = numbers[0];
     if 256 <= first {
@@ -105,5 +90,5 @@ pub fn write(numbers: &[u64; 14], buf: &mut [u8], at: usize, told: &mut [u64; 1]
     }
     let message = message_read::parts::fields(&bytes, kind);
     let written = message_write::write(message, buf, at);
-    tell_count(written, told)
+    telling::tell(told, written.map(telling::count))
 }

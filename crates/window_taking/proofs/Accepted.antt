@@ -20,7 +20,7 @@ use Rattle.packet.specs.Header as header
 use Rattle.packet.specs.Header.{Test, decided, header_in, header_tests}
 use Rattle.packet.specs.Judging.{body_tests, last_of, packet_tests, unless_heartbeat}
 use Rattle.packet.specs.Walk.{frames_from, size_at, walk_from}
-use Rattle.packet.specs.declared.walk.Walked.{Walked}
+use Rattle.std.specs.Prelude as std
 use Rattle.packet.proofs.Judgements.{decides, header_numbered, joined as joined-tests, numbered, passes}
 use Rattle.window_taking.specs.Taking.{bytes_at, channel, frames_in, judge, nine, packet_in, take_tests, ten, wait_tests}
 
@@ -33,7 +33,7 @@ numbered_append : (xs ys : List Test) → numbered xs ≡ true → numbered ys �
 numbered_append [] ys h g = g
 numbered_append (x ∷ xs) ys h g = on (not (eqb x.1.0 0)) (numbered xs) (numbered (xs ++ ys)) h (λ n. numbered_append xs ys n g)
 
-body_numbered : (b : Bool) (w : Walked) (seq messages : ℕ) → numbered (unless_heartbeat b (body_tests w seq messages)) ≡ true
+body_numbered : (b : Bool) (w : std.Option ℕ) (seq messages : ℕ) → numbered (unless_heartbeat b (body_tests w seq messages)) ≡ true
 unfolding body_tests
 body_numbered true w seq messages = refl
 body_numbered false w seq messages = refl

@@ -8,19 +8,24 @@ use Prim.Native.Nat.{ℕ, ◌+◌, ◌%◌, ◌≤◌, ◌<◌, max}
 use mathlib.Core.Logic.{by_cases}
 use native.Mathlib.Decide.{dec_lt}
 use native.Mathlib.Omega.{arith}
-use borrow.Author.Tests.{eq-eqb, eqb-true, ne_eqb, le-leb, lt-leb, ltb-false}
+use borrow.Author.Tests.{eq-eqb, eqb-false, eqb-true, ne_eqb, le-leb, lt-leb, ltb-false}
 use lib.Dec.{eqb, leb, ltb}
 use lib.ListN.{length, length-map}
+use Rattle.std.specs.Prelude.{Result, Ok, Err}
+use Rattle.refusals.specs.Refusals.{answered, number_of}
+use Rattle.refusals.specs.declared.Refusal.{Refusal}
+use Rattle.refusals.specs.declared.Refusal.TheVariants.{TooFarAhead, Differs}
+use Rattle.refusals.proofs.Numbers.{answered_err, some_number}
 use Rattle.wire.specs.Choice.{first_of}
 use Rattle.merge.specs.State.{Packet, State, fresh_if, fresh_in, heartbeat, keep, kept_at, kept_if, packet}
 use Rattle.merge.proofs.Clauses.{fresh-none, fresh_past, keep-heartbeat, kept_none as kept-none-at, kept_old}
 use Rattle.merge.proofs.Copies.{copy_none}
 use Rattle.packet.specs.Header as header
-use Rattle.packet.specs.Header.{Test, decided, flag_tests, header_in, header_tests}
+use Rattle.packet.specs.Header.{Judged, Test, decided, flag_tests, header_in, header_tests, told}
 use Rattle.packet.specs.Judging.{body_tests, fault_of, is_broken, judge_of, last_of, packet_tests, unless_heartbeat}
 use Rattle.packet.specs.Walk.{frames_from, walk_from}
 use Rattle.packet.specs.declared.header.Header.{Header}
-use Rattle.packet.specs.declared.header.Judged.{Judged}
+use Rattle.packet.specs.declared.header.Rejection.{Rejection}
 use Rattle.packet.proofs.Judgements.{and_left, and_right, decides, header_numbered, joined, passes}
 use Rattle.merge.proofs.Places.{waiting_below}
 use Rattle.window.specs.Window.{waits_at}
@@ -32,13 +37,9 @@ use Rattle.window_taking.proofs.Keeps.{same-fresh, same_kept}
 use Rattle.window_taking.proofs.Walks.{unbroken}
 
 -- an answer and the window behind it are those of the definition
-pub record Admits (through : Bool) (w s : List ℕ) (next end : ℕ) (r : Admitted) (after : List ℕ) : Type 0 where
+pub record Admits (through : Bool) (w s : List ℕ) (next end : ℕ) (r : Result Admitted Refusal) (after : List ℕ) : Type 0 where
   pub answer : r ≡ admitted_of through (state_of w next end) s
   pub kept : after ≡ window_for (held_by through (state_of w next end) s).waiting next
-
-none_of : (b : Bool) (n : ℕ) → n ≡ 0 → cond b n 0 ≡ 0
-none_of true n e = e
-none_of false n e = refl
 
 nought_of : (b : Bool) (n : ℕ) → n ≡ 0 → cond b 0 n ≡ 0
 nought_of true n e = refl
@@ -109,10 +110,18 @@ module _ (through : Bool) {w : List ℕ} (s : List ℕ) {next : ℕ} (end : ℕ)
       go true e = one ∙ ap (λ (y : State (List ℕ) (Unit {0})). window_for y.waiting next) (sym (held_straight e))
       go false e = other ∙ ap (λ (y : State (List ℕ) (Unit {0})). window_for y.waiting next) (sym (held_apart e))
 
-  answers : {n to d f : ℕ} → (decided (take_tests x s)).0 ≡ n → to ≡ (kept_by x s).end → d ≡ cond (through_in through x s) (count_of (judge x s)) 0
-      → f ≡ cond (through_in through x s) 0 (fresh_by x s) → ◌≡◌ {A = Admitted} (record { refusal = n; end = to; direct = d; fresh = f }) (admitted_of through x s)
+  -- of a packet that is taken
+  abbrev given : Admitted
+  given = record { end = (kept_by x s).end; direct = cond (through_in through x s) (count_of (judge x s)) 0; fresh = cond (through_in through x s) 0 (fresh_by x s) }
+
+  answers : {to d f : ℕ} → (decided (take_tests x s)).0 ≡ 0 → to ≡ (kept_by x s).end → d ≡ cond (through_in through x s) (count_of (judge x s)) 0
+      → f ≡ cond (through_in through x s) 0 (fresh_by x s) → ◌≡◌ {A = Result Admitted Refusal} (Ok (record { end = to; direct = d; fresh = f })) (admitted_of through x s)
   unfolding admitted_of
-  answers h e c f = λ i. record { refusal = sym h i; end = e i; direct = c i; fresh = f i }
+  answers h e c f = (λ i. Ok (record { end = e i; direct = c i; fresh = f i })) ∙ sym (ap (λ (n : ℕ). answered n given) h)
+
+  refuses : (r : Refusal) → (decided (take_tests x s)).0 ≡ number_of r → Err r ≡ admitted_of through x s
+  unfolding admitted_of
+  refuses r h = sym (ap (λ (n : ℕ). answered n given) h ∙ answered_err given r)
 
   kept_none : {o : Option (Packet (List ℕ))} → o ≡ none → kept_if x o ≡ x
   unfolding kept_if
@@ -123,17 +132,11 @@ module _ (through : Bool) {w : List ℕ} (s : List ℕ) {next : ℕ} (end : ℕ)
   kept_some e = ap (kept_if x) e
 
   -- a test that applies refuses, and nothing changes
-  refused : (n : ℕ) → (decided (take_tests x s)).0 ≡ n → (n ≡ 0 → ⊥) → Admits through w s next end (record { refusal = n; end = end; direct = 0; fresh = 0 }) w
-  refused n h named =
-      record {
-        answer =
-            answers h (ap (λ (y : State (List ℕ) (Unit {0})). y.end) (sym (kept_none no))) (sym (none_of (through_in through x s) (count_of (judge x s)) (ap count_of no)))
-            (sym (nought_of (through_in through x s) (fresh_by x s) (ap (fresh_if x) no)));
-        kept = same-held neat.same (neat.same ∙ ap (λ (y : State (List ℕ) (Unit {0})). window_for y.waiting next) (sym (kept_none no)));
-      }
+  refused : (r : Refusal) → (decided (take_tests x s)).0 ≡ number_of r → Admits through w s next end (Err r) w
+  refused r h = record { answer = refuses r h; kept = same-held neat.same (neat.same ∙ ap (λ (y : State (List ℕ) (Unit {0})). window_for y.waiting next) (sym (kept_none no))) }
     where
       no : judge x s ≡ none
-      no = judge_no x s h named
+      no = judge_no x s h (eqb-false (number_of r) 0 (some_number r))
 
   -- where none applies, the packet is kept, or goes straight on
   module _ (h : (decided (take_tests x s)).0 ≡ 0) {to : ℕ} (ends : to ≡ (keep x (packet_in s)).end) where
@@ -155,7 +158,7 @@ module _ (through : Bool) {w : List ℕ} (s : List ℕ) {next : ℕ} (end : ℕ)
 
     -- a packet that leaves the window as it was: one of no message, or all of it old
     left_alone : (through_in through x s ≡ true → length (packet_in s).messages ≡ 0) → fresh_in x (packet_in s) ≡ 0 → w ≡ window_for (keep x (packet_in s)).waiting next
-        → Admits through w s next end (record { refusal = 0; end = to; direct = 0; fresh = 0 }) w
+        → Admits through w s next end (Ok (record { end = to; direct = 0; fresh = 0 })) w
     left_alone empty stale is =
         record {
           answer = answers h kept_end (go (through_in through x s) empty) (sym (nought_of (through_in through x s) (fresh_by x s) (fresh-is ∙ stale)));
@@ -167,7 +170,7 @@ module _ (through : Bool) {w : List ℕ} (s : List ℕ) {next : ℕ} (end : ℕ)
         go false e = refl
 
     taken : (through && (eqb end next && eqb (packet_in s).first next)) ≡ false → {after : List ℕ} {f : ℕ} → after ≡ window_for (keep x (packet_in s)).waiting next → f ≡ fresh_in x (packet_in s)
-        → Admits through w s next end (record { refusal = 0; end = to; direct = 0; fresh = f }) after
+        → Admits through w s next end (Ok (record { end = to; direct = 0; fresh = f })) after
     taken apart is count =
         record {
           answer =
@@ -177,7 +180,7 @@ module _ (through : Bool) {w : List ℕ} (s : List ℕ) {next : ℕ} (end : ℕ)
         }
 
     goes : (through && (eqb end next && eqb (packet_in s).first next)) ≡ true → {n : ℕ} → n ≡ length (packet_in s).messages
-        → Admits through w s next end (record { refusal = 0; end = to; direct = n; fresh = 0 }) w
+        → Admits through w s next end (Ok (record { end = to; direct = n; fresh = 0 })) w
     goes level many =
         record {
           answer =
@@ -193,20 +196,19 @@ module _ (through : Bool) {w : List ℕ} (s : List ℕ) {next : ℕ} (end : ℕ)
   unfolding take_tests more
   apart = joined (packet_tests s) more (0, 0)
 
-  module _ {judged : Judged} (told : judged ≡ judge_of s) where
-    number : judged.test ≡ (decided (packet_tests s)).0
-    unfolding judge_of
-    number = ap (λ (j : Judged). j.test) told
+  number : {judged : Judged} → judged ≡ judge_of s → judged.test ≡ (decided (packet_tests s)).0
+  unfolding judge_of
+  number said = ap (λ (j : Judged). j.test) said
 
-    pub by_packet : (judged.test ≡ 0 → ⊥) → {r : Admitted} → r ≡ record { refusal = judged.test; end = end; direct = 0; fresh = 0 } → Admits through w s next end r w
-    by_packet named is =
-        let d : (decided (take_tests x s)).0 ≡ judged.test =
-        ap (λ (p : ℕ × ℕ). p.0) (apart ∙ decides (packet_tests s) (decided more) (λ e. named (number ∙ e))) ∙ sym number in
-        subst (λ (a : Admitted). Admits through w s next end a w) (sym is) (refused judged.test d named)
+  pub by_packet : {rejection : Rejection} → told (Err rejection) ≡ judge_of s → Admits through w s next end (Err rejection.refusal) w
+  by_packet {rejection} said =
+      let test : number_of rejection.refusal ≡ (decided (packet_tests s)).0 = number said in
+      let named : number_of rejection.refusal ≡ 0 → ⊥ = eqb-false (number_of rejection.refusal) 0 (some_number rejection.refusal) in
+      refused rejection.refusal (ap (λ (p : ℕ × ℕ). p.0) (apart ∙ decides (packet_tests s) (decided more) (λ e. named (test ∙ e))) ∙ sym test)
 
-    module _ (passed : judged.test ≡ 0) where
+  module _ (passed : told (Ok tt) ≡ judge_of s) where
       zero-tests : (decided (packet_tests s)).0 ≡ 0
-      zero-tests = sym number ∙ passed
+      zero-tests = sym (number passed)
 
       rest : decided (take_tests x s) ≡ decided more
       rest = apart ∙ passes (packet_tests s) (decided more) (packet_numbered s) zero-tests
@@ -224,20 +226,19 @@ module _ (through : Bool) {w : List ℕ} (s : List ℕ) {next : ℕ} (end : ℕ)
         flag b e = ap (λ (h : Header). eqb (h.flag % 2) 1) (sym read) ∙ e
 
         -- a heartbeat
-        pub beats : head.flag % 2 ≡ 1 → {to : ℕ} {r : Admitted} → to ≡ max end head.seq → r ≡ record { refusal = 0; end = to; direct = 0; fresh = 0 } → Admits through w s next end r w
+        pub beats : head.flag % 2 ≡ 1 → {to : ℕ} → to ≡ max end head.seq → Admits through w s next end (Ok (record { end = to; direct = 0; fresh = 0 })) w
         unfolding more packet_in keep
-        beats h {to} ends is =
+        beats h {to} ends =
             let hb : header.heartbeat (header_in s).flag ≡ true = flag true (eq-eqb (head.flag % 2) 1 h) in
             let d : (decided (take_tests x s)).0 ≡ 0 = ap (λ (p : ℕ × ℕ). p.0) (rest ∙ ap (λ (b : Bool). decided (unless_heartbeat b (wait_tests x s))) hb) in
             let p : packet_in s ≡ heartbeat (header_in s).seq = ap (λ (b : Bool). cond b (heartbeat (header_in s).seq) (packet (header_in s).seq (map (bytes_at s) (frames_in s)))) hb in
             let seq : head.seq ≡ (header_in s).seq = ap (λ (h : Header). h.seq) read in
             let k : keep x (packet_in s) ≡ record { next = next; end = max end (header_in s).seq; waiting = waiting_of w next; tables = tt } = ap (keep x) p ∙ keep-heartbeat x (header_in s).seq in
-            subst (λ (a : Admitted). Admits through w s next end a w) (sym is)
-            (left_alone d
+            left_alone d
             (ends ∙ ap (max end) seq ∙ sym (ap (λ (y : State (List ℕ) (Unit {0})). y.end) k))
             (λ e. ap (λ (q : Packet (List ℕ)). length q.messages) p)
             (ap (fresh_in x) p ∙ fresh-none x (header_in s).seq)
-            (neat.same ∙ sym (ap (λ (y : State (List ℕ) (Unit {0})). window_for y.waiting next) k)))
+            (neat.same ∙ sym (ap (λ (y : State (List ℕ) (Unit {0})). window_for y.waiting next) k))
 
         module _ (other : head.flag % 2 ≡ 1 → ⊥) where
           hb : header.heartbeat (header_in s).flag ≡ false
@@ -254,11 +255,11 @@ module _ (through : Bool) {w : List ℕ} (s : List ℕ) {next : ℕ} (end : ℕ)
           far : (b : Bool) → leb (next + 256) (last_of head.seq head.messages) ≡ b → (nine x s).0 ≡ b
           far b e = ap (λ (h : Header). leb (next + 256) (last_of h.seq h.messages)) (sym read) ∙ e
 
-          pub by_nine : next + 256 < head.seq + head.messages → {r : Admitted} → r ≡ record { refusal = 9; end = end; direct = 0; fresh = 0 } → Admits through w s next end r w
-          by_nine h is =
+          pub by_nine : next + 256 < head.seq + head.messages → Admits through w s next end (Err TooFarAhead) w
+          by_nine h =
               let n : (nine x s).0 ≡ true = far true (le-leb (next + 256) (last_of head.seq head.messages) (omega arith)) in
               let d : (decided (take_tests x s)).0 ≡ 9 = ap (λ (p : ℕ × ℕ). p.0) (waits ∙ ap (λ (b : Bool). decided ((b, (9, 2)) ∷ ten x s ∷ [])) n) in
-              subst (λ (a : Admitted). Admits through w s next end a w) (sym is) (refused 9 d (λ z. omega arith))
+              refused TooFarAhead d
 
           module _ (near : head.seq + head.messages ≤ next + 256) where
             within : (nine x s).0 ≡ false
@@ -286,8 +287,8 @@ module _ (through : Bool) {w : List ℕ} (s : List ℕ) {next : ℕ} (end : ℕ)
                   ap (λ (p : ℕ × ℕ). p.0)
                   (waits ∙ ap (λ (c : Bool). decided ((c, (9, 2)) ∷ ten x s ∷ [])) within ∙ ap (λ (c : Bool). decided ((c, (10, (ten x s).1.1)) ∷ [])) (tenth b e))
 
-              pub by_ten : differ ≡ true → {r : Admitted} → r ≡ record { refusal = 10; end = end; direct = 0; fresh = 0 } → Admits through w s next end r w
-              by_ten e is = subst (λ (a : Admitted). Admits through w s next end a w) (sym is) (refused 10 (tested true e) (λ z. omega arith))
+              pub by_ten : differ ≡ true → Admits through w s next end (Err Differs) w
+              by_ten e = refused Differs (tested true e)
 
               module _ (e : differ ≡ false) {to : ℕ} (ends : to ≡ max end (head.seq + head.messages)) {b : Bool} (at_next : b ≡ (through && (eqb end next && eqb head.seq next))) where
                 p : packet_in s ≡ packet head.seq (map (bytes_at s) (frames_from head.messages 12 s))
@@ -303,32 +304,30 @@ module _ (through : Bool) {w : List ℕ} (s : List ℕ) {next : ℕ} (end : ℕ)
                 level : b ≡ (through && (eqb end next && eqb (packet_in s).first next))
                 level = at_next ∙ sym (ap (λ (q : Packet (List ℕ)). through && (eqb end next && eqb q.first next)) p)
 
-                pub keeps : b ≡ false → {after : List ℕ} {r : Admitted} {f : ℕ}
+                pub keeps : b ≡ false → {after : List ℕ} {f : ℕ}
                     → f ≡ fresh_in (state_of w next next) (packet head.seq (map (bytes_at s) (frames_from head.messages 12 s))) → after ≡ window_for (keep (state_of w next next) (packet head.seq (map (bytes_at s) (frames_from head.messages 12 s)))).waiting next
-                    → r ≡ record { refusal = 0; end = to; direct = 0; fresh = f } → Admits through w s next end r after
+                    → Admits through w s next end (Ok (record { end = to; direct = 0; fresh = f })) after
                 unfolding keep
-                keeps apart_from {after} count is answer =
-                    subst (λ (a : Admitted). Admits through w s next end a after) (sym answer)
-                    (taken (tested false e) end_is (sym level ∙ apart_from)
+                keeps apart_from {after} count is =
+                    taken (tested false e) end_is (sym level ∙ apart_from)
                     (is
                     ∙ ap (λ (f : ℕ → Option (List ℕ)). window_for f next) (same_kept (state_of w next next) x (packet head.seq (map (bytes_at s) (frames_from head.messages 12 s))) refl refl)
                     ∙ sym (ap (λ (q : Packet (List ℕ)). window_for (keep x q).waiting next) p))
-                    (count ∙ same-fresh (state_of w next next) x (packet head.seq (map (bytes_at s) (frames_from head.messages 12 s))) refl refl ∙ sym (ap (fresh_in x) p)))
+                    (count ∙ same-fresh (state_of w next next) x (packet head.seq (map (bytes_at s) (frames_from head.messages 12 s))) refl refl ∙ sym (ap (fresh_in x) p))
 
-                pub passes_by : head.seq + head.messages ≤ next → {r : Admitted} → r ≡ record { refusal = 0; end = to; direct = 0; fresh = 0 } → Admits through w s next end r w
+                pub passes_by : head.seq + head.messages ≤ next → Admits through w s next end (Ok (record { end = to; direct = 0; fresh = 0 })) w
                 unfolding keep
-                passes_by old {r} answer =
+                passes_by old =
                     let ms : List (List ℕ) = map (bytes_at s) (frames_from head.messages 12 s) in
                     let same : (k : ℕ) → kept_at x (packet head.seq (map (bytes_at s) (frames_from head.messages 12 s))) k ≡ waiting_of w next k =
                     λ k.
                     by_cases (dec_lt k next)
                     (λ l. kept_old x (packet head.seq (map (bytes_at s) (frames_from head.messages 12 s))) k l)
                     (λ l. kept-none-at x (packet head.seq (map (bytes_at s) (frames_from head.messages 12 s))) k (copy_none (packet head.seq (map (bytes_at s) (frames_from head.messages 12 s))) k (λ c. omega (arith, c.low, c.high, n)))) in
-                    subst (λ (a : Admitted). Admits through w s next end a w) (sym answer)
-                    (left_alone (tested false e) end_is
+                    left_alone (tested false e) end_is
                     (λ z. ap (λ (q : Packet (List ℕ)). length q.messages) p ∙ n ∙ none_new head.seq head.messages old (level_seq z))
                     (ap (fresh_in x) p ∙ fresh_past x (packet head.seq (map (bytes_at s) (frames_from head.messages 12 s))) (omega (arith, n)))
-                    (neat.same ∙ sym (ap (λ (q : Packet (List ℕ)). window_for (keep x q).waiting next) p ∙ ap (λ (f : ℕ → Option (List ℕ)). window_for f next) (fun_ext same))))
+                    (neat.same ∙ sym (ap (λ (q : Packet (List ℕ)). window_for (keep x q).waiting next) p ∙ ap (λ (f : ℕ → Option (List ℕ)). window_for f next) (fun_ext same)))
                   where
                     none_new : (first many : ℕ) → first + many ≤ next → first ≡ next → many ≡ 0
                     none_new first many h at = omega arith
@@ -339,28 +338,25 @@ module _ (through : Bool) {w : List ℕ} (s : List ℕ) {next : ℕ} (end : ℕ)
                         (and_right (eqb end next) (eqb head.seq next)
                         (and_right through (eqb end next && eqb head.seq next) (sym (starts (tested false e) end_is ∙ sym level ∙ at_next) ∙ z)))
 
-                pub goes_on : b ≡ true → {r : Admitted} → r ≡ record { refusal = 0; end = to; direct = head.messages; fresh = 0 } → Admits through w s next end r w
-                goes_on yes {r} answer =
-                    subst (λ (a : Admitted). Admits through w s next end a w) (sym answer)
-                    (goes (tested false e) end_is (sym level ∙ yes) (sym n ∙ sym (ap (λ (q : Packet (List ℕ)). length q.messages) p)))
+                pub goes_on : b ≡ true → Admits through w s next end (Ok (record { end = to; direct = head.messages; fresh = 0 })) w
+                goes_on yes =
+                    goes (tested false e) end_is (sym level ∙ yes) (sym n ∙ sym (ap (λ (q : Packet (List ℕ)). length q.messages) p))
 
             -- all of it is old, so nothing differs
-            pub old_on : head.seq + head.messages ≤ next → {to : ℕ} → to ≡ max end (head.seq + head.messages) → {r : Admitted} → r ≡ record { refusal = 0; end = to; direct = 0; fresh = 0 } → Admits through w s next end r w
-            old_on old ends answer =
+            pub old_on : head.seq + head.messages ≤ next → {to : ℕ} → to ≡ max end (head.seq + head.messages) → Admits through w s next end (Ok (record { end = to; direct = 0; fresh = 0 })) w
+            old_on old ends =
                 passes_by {differ = is_some (differ_from (waiting_of w next) head.seq (frames_from head.messages 12 s) s)} refl
                 (none_differs (waiting_of w next) head.seq (frames_from head.messages 12 s) s (λ j lo hi. below_none w next j (omega (arith, length_frames head.messages 12 s))))
                 ends
                 refl
                 old
-                answer
 
             -- nothing is known beyond next, so nothing differs
             pub straight_on : Known w next end → {to : ℕ} → to ≡ max end (head.seq + head.messages) → {b : Bool} → b ≡ (through && (eqb end next && eqb head.seq next)) → b ≡ true
-                → {r : Admitted} → r ≡ record { refusal = 0; end = to; direct = head.messages; fresh = 0 } → Admits through w s next end r w
-            straight_on known ends at_next yes answer =
+                → Admits through w s next end (Ok (record { end = to; direct = head.messages; fresh = 0 })) w
+            straight_on known ends at_next yes =
                 goes_on {differ = is_some (differ_from (waiting_of w next) head.seq (frames_from head.messages 12 s) s)} refl
                 (none_differs (waiting_of w next) head.seq (frames_from head.messages 12 s) s (λ j lo hi. none-waits known (eqb-true end next (and_left (eqb end next) (eqb head.seq next) (and_right through (eqb end next && eqb head.seq next) (sym at_next ∙ yes)))) j))
                 ends
                 at_next
                 yes
-                answer

@@ -19,7 +19,7 @@ use Rattle.merge.proofs.Copies.{copy_head, copy_none, copy_rest}
 use Rattle.packet.specs.Header as header
 use Rattle.packet.specs.Header.{decided, header_in}
 use Rattle.packet.specs.Walk.{frames_from, size_at, walk_from}
-use Rattle.packet.specs.declared.walk.Walked.TheVariants as walked
+use Rattle.std.specs.Prelude.{None}
 use Rattle.packet.proofs.Judgements.{and_left, and_right}
 use Rattle.window.specs.Window.{window_of}
 use Rattle.wire.proofs.Parts.{part_long, part-part}
@@ -51,7 +51,7 @@ module _ (s : List ℕ) (start n : ℕ) (inside : start + n ≤ length s) {windo
       (λ e. ap (λ (b : Bool). cond b none (waiting j)) (eq-eqb j k e) ∙ sym (copy_none (packet (k + 1) ms) j (λ c. omega (arith, c.low, e))))
       (λ ne. ap (λ (b : Bool). cond b none (waiting j)) (ne_eqb j k ne) ∙ h j ∙ copy_rest k m ms j ne)
 
-  ahead_all : (many at k : ℕ) → walk_from many at p ≡ walked.Whole → (waiting : ℕ → Option (List ℕ)) → ((j : ℕ) → waiting j ≡ copy_of (packet k (map (bytes_at p) (frames_from many at p))) j)
+  ahead_all : (many at k : ℕ) → walk_from many at p ≡ None → (waiting : ℕ → Option (List ℕ)) → ((j : ℕ) → waiting j ≡ copy_of (packet k (map (bytes_at p) (frames_from many at p))) j)
       → Ahead s many (start + at) k window waiting
   unfolding frames_from
   ahead_all zero at k walk waiting h = clear ∙ sym (nothing waiting k (λ j. h j ∙ copy_none (packet k []) j (λ c. omega (arith, c.low, c.high))))
@@ -68,7 +68,7 @@ module _ (s : List ℕ) (start n : ℕ) (inside : start + n ≤ length s) {windo
         (
           omega (arith, on, g.framed.within, long, inside),
           subst (λ (f : ℕ). Ahead s many f (k + 1) window (freed k waiting)) on
-              (ahead_all many (at + size_at p at) (k + 1) (subst (λ (c : ℕ). walk_from c (at + size_at p at) p ≡ walked.Whole) one g.rest) (freed k waiting) (step-freed k (part p at (size_at p at)) ms waiting h)),
+              (ahead_all many (at + size_at p at) (k + 1) (subst (λ (c : ℕ). walk_from c (at + size_at p at) p ≡ None) one g.rest) (freed k waiting) (step-freed k (part p at (size_at p at)) ms waiting h)),
         ),
       )
 

@@ -12,7 +12,7 @@ use lib.ListN.{length, get_or}
 use Rattle.wire.specs.Number.{part}
 use Rattle.wire.proofs.Place.{length_part}
 use Rattle.packet.specs.Walk.{frames_from, size_at as size_in, walk_from}
-use Rattle.packet.specs.declared.walk.Walked.TheVariants as walked
+use Rattle.std.specs.Prelude.{None}
 use Rattle.window.specs.Window.{agreeing, size_at, start_of}
 use Rattle.wire.proofs.Parts.{part_long}
 use Rattle.message.specs.Whole.{Whole}
@@ -114,7 +114,7 @@ module _ (waiting : ℕ → Option (List ℕ)) (k : ℕ) (frame : ℕ × ℕ) (f
 
 pub record Seeking (w s : List ℕ) (next first messages at k left : ℕ) : Type 0 where
   pub neat : Neat w next
-  pub walk : walk_from left at s ≡ walked.Whole
+  pub walk : walk_from left at s ≡ None
   pub near : k + left ≤ next + 256
   pub rest : differ_from (waiting_of w next) first (frames_from messages 12 s) s ≡ differ_from (waiting_of w next) k (frames_from left at s) s
 
@@ -155,7 +155,7 @@ module _ {w s : List ℕ} {next first messages at k left : ℕ} (g : Seeking w s
       seek_next e =
           record {
             neat = g.neat;
-            walk = subst (λ (n : ℕ). walk_from (left - 1) (at + n) s ≡ walked.Whole) (sym told) there.rest;
+            walk = subst (λ (n : ℕ). walk_from (left - 1) (at + n) s ≡ None) (sym told) there.rest;
             near = omega (arith, g.near);
             rest = frames ∙ differ_later (waiting_of w next) k (at, size) (frames_from (left - 1) (at + size) s) s (sym is ∙ e);
           }

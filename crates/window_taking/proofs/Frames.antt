@@ -6,9 +6,12 @@ use mathlib.Core.List.{List, [], ◌∷◌}
 use Prim.Native.Nat.{ℕ, ◌+◌, ◌-◌, ◌≤◌, min}
 use native.Mathlib.Omega.{arith}
 use lib.ListN.{length, take, drop}
+use Rattle.std.specs.Prelude.{Result}
+use Rattle.refusals.specs.Refusals.{refusal_or_none}
+use Rattle.refusals.specs.declared.Refusal.{Refusal}
 use Rattle.wire.specs.Number.{part, splice}
 use Rattle.wire.proofs.Place.{splice-none}
-use Rattle.window_taking.specs.Turns.{answer_if, closing, frame_at, from_by, length_at, packet_at, place_after, place_if, turn_of, Closes, Lies}
+use Rattle.window_taking.specs.Turns.{answer_if, closing, direct_by, end_by, frame_at, from_by, length_at, packet_at, place_after, place_if, refused_by, turn_of, Closes, Lies}
 use Rattle.window_taking.specs.declared.burst.Frame.{Frame}
 use Rattle.window_taking.specs.declared.burst.Turn.{Turn}
 use Rattle.window.proofs.Agreeing.{lent}
@@ -38,9 +41,9 @@ module _ {single : Bool} {s : List ℕ} {at : ℕ} (lies : Lies single s at) whe
     pub frame_lent : take (f.start + f.size - f.start) (drop f.start s) ≡ packet_at single s at
     frame_lent = lent s f.start f.size frame_stop ∙ ap (λ (g : Frame). part s g.start g.size) is
 
-    pub began : (w : List ℕ) (next end left place : ℕ) {r : Admitted} → r ≡ admitted_of true (state_of w next end) (take (f.start + f.size - f.start) (drop f.start s))
+    pub began : (w : List ℕ) (next end left place : ℕ) {r : Result Admitted Refusal} → r ≡ admitted_of true (state_of w next end) (take (f.start + f.size - f.start) (drop f.start s))
         → {n from : ℕ} → n ≡ min f.size 12 → from ≡ from_by r (f.start + n)
-        → ◌≡◌ {A = Turn} (record { begun = true; left = left; at = f.start + f.size; place = place; before = next; refusal = r.refusal; end = r.end; direct = r.direct; from = from }) (turn_of (state_of w next end) single s at left place)
+        → ◌≡◌ {A = Turn} (record { begun = true; left = left; at = f.start + f.size; place = place; before = next; refusal = refused_by r; end = end_by end r; direct = direct_by r; from = from }) (turn_of (state_of w next end) single s at left place)
     began w next end left place {r} h {n} {from} head froms =
         let e : r ≡ admitted_of true (state_of w next end) (packet_at single s at) = h ∙ ap (admitted_of true (state_of w next end)) frame_lent in
         let m : n ≡ min (frame_at single s at).size 12 = head ∙ ap (λ (g : Frame). min g.size 12) is in
@@ -52,9 +55,9 @@ module _ {single : Bool} {s : List ℕ} {at : ℕ} (lies : Lies single s at) whe
           at = (is i).start + (is i).size;
           place = place;
           before = next;
-          refusal = (e i).refusal;
-          end = (e i).end;
-          direct = (e i).direct;
+          refusal = refused_by (e i);
+          end = end_by end (e i);
+          direct = direct_by (e i);
           from = to i;
         }
 
@@ -82,7 +85,7 @@ is_false false e = refl
 
 module _ (turn : Turn) (next : ℕ) (answers : List ℕ) where
   abbrev row : List ℕ
-  row = (next - turn.before) ∷ turn.refusal ∷ next ∷ turn.end ∷ []
+  row = (next - turn.before) ∷ refusal_or_none turn.refusal ∷ next ∷ turn.end ∷ []
 
   pub not_begun : not turn.begun ≡ true → answers ≡ splice answers turn.place (closing turn next)
   not_begun e = sym (ap (λ (b : Bool). splice answers turn.place (answer_if b row)) (is_false turn.begun e) ∙ splice-none answers turn.place)

@@ -15,7 +15,7 @@ use Rattle.merge.specs.State.{Packet, State, copy_of, count_from, first_there, f
 use Rattle.merge.proofs.Clauses.{fresh-cons, fresh-none, fresh_small, keep-cons, keep-heartbeat, kept_new, kept_none, kept_old}
 use Rattle.merge.proofs.Copies.{copy_head, copy_other}
 use Rattle.packet.specs.Walk.{frames_from, size_at, walk_from}
-use Rattle.packet.specs.declared.walk.Walked.TheVariants as walked
+use Rattle.std.specs.Prelude.{None}
 use Rattle.message.specs.Whole.{Whole}
 use Rattle.window_taking.specs.Taking.{bytes_at}
 use Rattle.window_taking.specs.Keeping.{waiting_of, window_for, state_of, Neat, Framed, Passed}
@@ -66,7 +66,7 @@ kept_window w next p = window_for (keep (state_of w next next) p).waiting next
 
 pub record Going (w₀ w s : List ℕ) (next first messages at k left fresh : ℕ) : Type 0 where
   pub neat : Neat w next
-  pub walk : walk_from left at s ≡ walked.Whole
+  pub walk : walk_from left at s ≡ None
   pub near : k + left ≤ next + 256
   pub rest : kept_window w₀ next (left_of s first 12 messages) ≡ kept_window w next (left_of s k at left)
   pub few : fresh ≤ k
@@ -120,7 +120,7 @@ module _ {w₀ w s : List ℕ} {next first messages at k left fresh size : ℕ} 
       fresh-cons x k m ms ∙ ap (λ (n : ℕ). fresh_in x (single k m) + n) (same-fresh y (state_of after next next) (packet (k + 1) ms) refl (sym holds)) in
       record {
         neat = subst (λ (l : List ℕ). Neat l next) (sym is) (neat_for within g.neat.top);
-        walk = subst (λ (n : ℕ). walk_from (left - 1) (at + n) s ≡ walked.Whole) (sym told) there.rest;
+        walk = subst (λ (n : ℕ). walk_from (left - 1) (at + n) s ≡ None) (sym told) there.rest;
         near = omega (arith, g.near);
         rest = g.rest ∙ ap (λ (l : List (List ℕ)). kept_window w next (packet k l)) frames ∙ ap (λ (f : ℕ → Option (List ℕ)). window_for f next) kept;
         few = omega (arith, g.few, ones, fresh_small x k m);

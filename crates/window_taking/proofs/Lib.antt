@@ -6,6 +6,7 @@ pub mod Walks
 pub mod Keeps
 pub mod Differs
 pub mod Admits
+pub mod Answered
 pub mod Ahead
 pub mod Passing
 pub mod Following

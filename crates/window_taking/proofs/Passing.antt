@@ -16,7 +16,7 @@ use Rattle.packet.specs.Header as header
 use Rattle.packet.specs.Header.{Test, decided, header_in, header_tests}
 use Rattle.packet.specs.Judging.{body_tests, fault_of, is_broken, last_of, packet_tests, unless_heartbeat}
 use Rattle.packet.specs.Walk.{frames_from, size_at, walk_from}
-use Rattle.packet.specs.declared.walk.Walked.TheVariants as walked
+use Rattle.std.specs.Prelude.{None}
 use Rattle.packet.proofs.Judgements.{header_numbered}
 use Rattle.message.specs.Whole.{Whole}
 use Rattle.window_taking.specs.Taking.{bytes_at, frames_in, judge, packet_in, take_tests, wait_tests}
@@ -45,13 +45,13 @@ copy_whole p all k m e = go (leb p.first k) e
     go true h = one_of p.messages all (k - p.first) h
     go false h = absurd (none-ne-some _ h)
 
-walked_whole : (s : List ℕ) (n at : ℕ) → walk_from n at s ≡ walked.Whole → AllWhole (map (bytes_at s) (frames_from n at s))
+walked_whole : (s : List ℕ) (n at : ℕ) → walk_from n at s ≡ None → AllWhole (map (bytes_at s) (frames_from n at s))
 unfolding frames_from
 walked_whole s zero at walk = tt
 walked_whole s (suc n) at walk =
     let g : Goes s at (suc n) = goes s at (suc n) walk (omega arith) in
     let one : suc n - 1 ≡ n = omega arith in
-    (g.framed.whole, walked_whole s n (at + size_at s at) (subst (λ (k : ℕ). walk_from k (at + size_at s at) s ≡ walked.Whole) one g.rest))
+    (g.framed.whole, walked_whole s n (at + size_at s at) (subst (λ (k : ℕ). walk_from k (at + size_at s at) s ≡ None) one g.rest))
 
 -- what the judge lets pass
 pub record Passes (p : Packet (List ℕ)) : Type 0 where
@@ -61,7 +61,7 @@ pub record Passes (p : Packet (List ℕ)) : Type 0 where
 -- of one that 1 to 8 let pass and that is no heartbeat the header is there, and its messages are whole, one behind the other
 pub record Walks (s : List ℕ) : Type 0 where
   pub long : 12 ≤ length s
-  pub walk : walk_from (header_in s).messages 12 s ≡ walked.Whole
+  pub walk : walk_from (header_in s).messages 12 s ≡ None
 
 pub walks : (s : List ℕ) → (decided (packet_tests s)).0 ≡ 0 → header.heartbeat (header_in s).flag ≡ false → Walks s
 unfolding packet_tests body_tests header_tests

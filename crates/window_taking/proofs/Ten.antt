@@ -20,7 +20,7 @@ use Rattle.packet.specs.Header as header
 use Rattle.packet.specs.Header.{Test, decided, flag_tests, header_in, header_tests}
 use Rattle.packet.specs.Judging.{body_tests, packet_tests, unless_heartbeat}
 use Rattle.packet.specs.Walk.{frames_from, size_at, walk_from}
-use Rattle.packet.specs.declared.walk.Walked.TheVariants as walked
+use Rattle.std.specs.Prelude.{None}
 use Rattle.packet.proofs.Headers.{passed}
 use Rattle.packet.proofs.Judgements.{and_left, and_right, decides, header_numbered, joined, passes}
 use Rattle.window.specs.Window.{agreeing}
@@ -225,13 +225,13 @@ module _ (waiting : ℕ → Option (List ℕ)) (whole : (k : ℕ) (m : List ℕ)
         go true f = past (same copy e (eqb-true (agreeing copy bytes) (length bytes) f)) rest
         go false f = here copy e (eqb-false (agreeing copy bytes) (length bytes) f)
 
-  looks : (n at k : ℕ) → walk_from n at s ≡ walked.Whole → Looks waiting k (frames_from n at s) s (differ_from waiting k (frames_from n at s) s)
+  looks : (n at k : ℕ) → walk_from n at s ≡ None → Looks waiting k (frames_from n at s) s (differ_from waiting k (frames_from n at s) s)
   unfolding frames_from differ_from
   looks zero at k walk = equal (λ d. none-ne-some _ d.message.here)
   looks (suc n) at k walk =
       let g : Goes s at (suc n) = goes s at (suc n) walk (omega arith) in
       let n' : suc n - 1 ≡ n = omega arith in
-      let rest : walk_from n (at + size_at s at) s ≡ walked.Whole = subst (λ (j : ℕ). walk_from j (at + size_at s at) s ≡ walked.Whole) n' g.rest in
+      let rest : walk_from n (at + size_at s at) s ≡ None = subst (λ (j : ℕ). walk_from j (at + size_at s at) s ≡ None) n' g.rest in
       look_one k at (size_at s at) (frames_from n (at + size_at s at) s) g.framed (from_start s n (at + size_at s at))
       (looks n (at + size_at s at) (k + 1) rest) (waiting k) refl
 

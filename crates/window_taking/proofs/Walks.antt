@@ -7,15 +7,15 @@ use Prim.Native.Nat.{ℕ, zero, suc, ◌+◌, ◌-◌, ◌≤◌, ◌<◌}
 use native.Mathlib.Omega.{arith}
 use Rattle.packet.specs.Judging.{is_broken}
 use Rattle.packet.specs.Walk.{broken_at, frames_from, size_at, step_at, walk_from}
-use Rattle.packet.specs.declared.walk.Walked.{Walked}
-use Rattle.packet.specs.declared.walk.Walked.TheVariants as walked
+use Rattle.std.specs.Prelude as std
+use Rattle.std.specs.Prelude.{None, Some}
 use Rattle.packet.proofs.Walking.{Lies, lies}
 use Rattle.window_taking.specs.Keeping.{Framed}
 use Rattle.window_taking.proofs.Whole.{whole_part}
 
-pub unbroken : (w : Walked) → is_broken w ≡ false → w ≡ walked.Whole
-unbroken walked.Whole e = refl
-unbroken (walked.Broken at) e = absurd (omega (arith, ap {B = ℕ} (λ (b : Bool). cond b 1 0) e))
+pub unbroken : (w : std.Option ℕ) → is_broken w ≡ false → w ≡ None
+unbroken None e = refl
+unbroken (Some at) e = absurd (omega (arith, ap {B = ℕ} (λ (b : Bool). cond b 1 0) e))
 
 framed_at : (s : List ℕ) (at : ℕ) → broken_at s at ≡ false → Framed s at (size_at s at)
 unfolding step_at
@@ -28,10 +28,10 @@ framed_at s at e =
 pub record Goes (s : List ℕ) (at left : ℕ) : Type 0 where
   pub framed : Framed s at (size_at s at)
   pub least : 3 ≤ size_at s at
-  pub rest : walk_from (left - 1) (at + size_at s at) s ≡ walked.Whole
+  pub rest : walk_from (left - 1) (at + size_at s at) s ≡ None
   pub frames : frames_from left at s ≡ (at, size_at s at) ∷ frames_from (left - 1) (at + size_at s at) s
 
-pub goes : (s : List ℕ) (at left : ℕ) → walk_from left at s ≡ walked.Whole → 0 < left → Goes s at left
+pub goes : (s : List ℕ) (at left : ℕ) → walk_from left at s ≡ None → 0 < left → Goes s at left
 unfolding walk_from frames_from
 goes s at zero walk some = absurd (omega arith)
 goes s at (suc left) walk some = go (broken_at s at) refl
@@ -41,10 +41,10 @@ goes s at (suc left) walk some = go (broken_at s at) refl
 
     go : (b : Bool) → broken_at s at ≡ b → Goes s at (suc left)
     go true e =
-        let bad : walked.Broken at ≡ walked.Whole = simp e at walk in
-        absurd (omega (arith, ap {B = ℕ} (λ (w : Walked). cond (is_broken w) 1 0) bad))
+        let bad : Some at ≡ None = simp e at walk in
+        absurd (omega (arith, ap {B = ℕ} (λ (w : std.Option ℕ). cond (is_broken w) 1 0) bad))
     go false e =
-        let good : walk_from left (at + size_at s at) s ≡ walked.Whole = simp e at walk in
+        let good : walk_from left (at + size_at s at) s ≡ None = simp e at walk in
         record {
           framed = framed_at s at e;
           least = (lies s at e).least;

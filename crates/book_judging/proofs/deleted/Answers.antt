@@ -3,4 +3,4 @@
 use Rattle.book_judging.proofs.deleted.Goals as goal
 
 pub returns : goal.returns
-returns c = simp (c.if-not-good.false, c.in-At.is)
+returns c = simp (c.if-not-good.false, c.in-Some.is)

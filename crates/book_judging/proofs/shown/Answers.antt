@@ -10,4 +10,4 @@ pub returns-else-held-ge-INSIDES : goal.returns-else-held-ge-INSIDES
 returns-else-held-ge-INSIDES c = simp (c.if-not-good.false, c.in_default.is, lt-leb _ _ c.if-held-ge-INSIDES.false)
 
 pub returns : goal.returns
-returns c = simp (c.if-not-good.false, c.in-At.is)
+returns c = simp (c.if-not-good.false, c.in-Some.is)

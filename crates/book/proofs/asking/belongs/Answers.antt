@@ -7,7 +7,7 @@ use mathlib.Core.List.{List}
 use Prim.Native.Nat.{ℕ}
 use borrow.Author.Tests.{eq-eqb, ne_eqb}
 use Rattle.book.specs.Asking.{is_of}
-use Rattle.book.specs.Lookup.{same_symbol}
+use Rattle.book.specs.Lookup.{same_symbol, same_parts}
 use Rattle.book.specs.declared.tables.Order.{Order}
 use Rattle.book.proofs.Symbols.{same_apart}
 use Rattle.book.proofs.asking.belongs.Goals as goal
@@ -25,4 +25,5 @@ pub returns-then-order-side : goal.returns-then-order-side
 returns-then-order-side c symbol p = other-side _ _ _ c.if-order-side.true
 
 pub returns : goal.returns
-returns c symbol p = this-side _ _ _ c.if-order-side.false (c.same.ensures ∙ same_apart _ _ c.parts_of.ensures p)
+unfolding same_parts
+returns c symbol p = this-side _ _ _ c.if-order-side.false (c.eq.ensures ∙ same_apart _ _ c.parts_of.ensures p)

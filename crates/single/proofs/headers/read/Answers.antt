@@ -1,14 +1,13 @@
--- The fields of a header, by cases of the answer.
+-- The fields of a header, as five numbers.
 -- Assumes nothing.
-use Rattle.single.proofs.Cases.{header_by}
+use Rattle.std.proofs.Common.{◌≡◌, ap, sym, ◌∙◌, rules, Result, Err, MatchResult, IsOkAnd}
+use Rattle.refusals.specs.declared.Refusal.{Refusal}
+use Rattle.packet.specs.declared.header.Header.{Header}
+use Rattle.single.specs.Told.{header_numbers, header_told}
+use Rattle.single.proofs.Telling.{told_all}
 use Rattle.single.proofs.headers.read.Goals as goal
 
-pub returns-in-Fields : goal.returns-in-Fields
-returns-in-Fields c =
-    let h = header_by c.read_header.ensures c.args.told.now c.in-Fields.is in
-    record { refusal = h.0; told = h.1 }
-
-pub returns-in-Refused : goal.returns-in-Refused
-returns-in-Refused c =
-    let h = header_by c.read_header.ensures c.args.told.now c.in-Refused.is in
-    record { refusal = h.0; told = h.1 }
+pub returns-clause-told : goal.returns-clause-told
+returns-clause-told c =
+    let numbers : MatchResult c.read_header.result (λ h. IsOkAnd c.map.result (λ l. l ≡ header_numbers h)) (λ e. c.map.result ≡ Err e) = search rules in
+    told_all header_numbers c.read_header.result (λ h. sym c.told-told) numbers c.tell.ensures.told ∙ ap (λ (r : Result Header Refusal). header_told r c.args.told.now) c.read_header.ensures

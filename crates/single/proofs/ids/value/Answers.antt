@@ -1,14 +1,12 @@
--- The value of an id, by cases of the answer.
+-- The value of an id, as one number.
 -- Assumes nothing.
-use Rattle.single.proofs.Cases.{value_by}
+use Rattle.std.proofs.Common.{◌≡◌, ℕ, List, [], ◌∷◌, ap, sym, ◌∙◌, rules, Result, Err, MatchResult, IsOkAnd}
+use Rattle.refusals.specs.declared.Refusal.{Refusal}
+use Rattle.single.specs.Told.{number_told}
+use Rattle.single.proofs.Telling.{told_all}
 use Rattle.single.proofs.ids.value.Goals as goal
 
-pub returns-in-Value : goal.returns-in-Value
-returns-in-Value c =
-    let h = value_by c.value.ensures c.args.told.now c.in-Value.is in
-    record { refusal = h.0; told = h.1 }
-
-pub returns-in-Refused : goal.returns-in-Refused
-returns-in-Refused c =
-    let h = value_by c.value.ensures c.args.told.now c.in-Refused.is in
-    record { refusal = h.0; told = h.1 }
+pub returns-clause-told : goal.returns-clause-told
+returns-clause-told c =
+    let numbers : MatchResult c.value.result (λ n. IsOkAnd c.map.result (λ l. l ≡ n ∷ [])) (λ e. c.map.result ≡ Err e) = search rules in
+    told_all (λ n. n ∷ []) c.value.result (λ n. sym c.told-told) numbers c.tell.ensures.told ∙ ap (λ (r : Result ℕ Refusal). number_told r c.args.told.now) c.value.ensures
