@@ -79,7 +79,7 @@ pub record Counted (m : Message) (n at size : ℕ) : Type 0 where
   pub fields : size ≡ 3 + width_of (layout_of (type_of m))
   pub small : size ≤ 128
 
-count-is : (size k : ℕ) → Ok size ≡ Ok k → k ≡ size
+count-is : (size k : ℕ) → ◌≡◌ {A = Result ℕ Refusal} (Ok size) (Ok k) → k ≡ size
 count-is size k e = cc
 
 -- a refusal is no count
