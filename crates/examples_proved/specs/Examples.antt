@@ -1,15 +1,14 @@
 -- Document 01, "Worked by hand", and the two rules of an opening: each example with what is to hold, as a test.
 -- Assumes nothing.
-use Rattle.std.specs.Prelude.{Bool, true, false, ◌&&◌, List, [], ◌∷◌, ◌++◌, ℕ, ◌+◌, eqb, length, replicate, get_or, take}
+use Rattle.std.specs.Prelude.{Bool, true, false, ◌&&◌, List, [], ◌∷◌, ◌++◌, ℕ, ◌+◌, eqb, length, replicate, get_or, take, Result, Ok, Err}
 use Rattle.std.proofs.Math.Option.{Option, none, some}
+use Rattle.refusals.specs.Refusals.{number_of}
+use Rattle.refusals.specs.declared.Refusal.{Refusal}
 use Rattle.wire.specs.Layout.{Value, number_is, text_is, encode}
 use Rattle.fields.specs.Id.{id_answer}
-use Rattle.fields.specs.declared.id.IdValue.{IdValue}
-use Rattle.fields.specs.declared.id.IdValue.TheVariants as value
 use Rattle.message.specs.Layouts as layouts
 use Rattle.message.specs.Reading.{read_of}
-use Rattle.message.specs.declared.answer.Verdict.{Verdict}
-use Rattle.message.specs.declared.answer.Verdict.TheVariants as verdict
+use Rattle.message.specs.declared.kinds.Message.{Message}
 use Rattle.packet.specs.Header as header
 use Rattle.merge.specs.State.{opened, take_all}
 use Rattle.window.specs.Runs.{requests_of}
@@ -29,21 +28,21 @@ same [] (y ∷ ys) = false
 same (x ∷ xs) [] = false
 same (x ∷ xs) (y ∷ ys) = eqb x y && same xs ys
 
-abbrev pub has_value : IdValue → ℕ → Bool
-has_value (value.Value n) m = eqb n m
-has_value (value.Refused number) m = false
+abbrev pub has_value : Result ℕ Refusal → ℕ → Bool
+has_value (Ok n) m = eqb n m
+has_value (Err refusal) m = false
 
-abbrev pub is_refused_id : IdValue → Bool
-is_refused_id (value.Value n) = false
-is_refused_id (value.Refused number) = eqb number 12
+abbrev pub is_refused_id : Result ℕ Refusal → Bool
+is_refused_id (Ok n) = false
+is_refused_id (Err refusal) = eqb (number_of refusal) 12
 
-abbrev pub accepts : Verdict → Bool
-accepts verdict.Accepted = true
-accepts (verdict.Refused number) = false
+abbrev pub accepts : Result Message Refusal → Bool
+accepts (Ok message) = true
+accepts (Err refusal) = false
 
-abbrev pub refuses : Verdict → ℕ → Bool
-refuses verdict.Accepted number = false
-refuses (verdict.Refused given) number = eqb given number
+abbrev pub refuses : Result Message Refusal → ℕ → Bool
+refuses (Ok message) number = false
+refuses (Err refusal) number = eqb (number_of refusal) number
 
 abbrev pub waits : Option (List ℕ) → Bool
 waits none = false
@@ -130,8 +129,8 @@ examples =
     ∷ is_refused_id (id_answer small_early)
     ∷ has_value (id_answer small_late) 958319779308913917
     -- P5, P6: the message alone, and in a packet
-    ∷ refuses (read_of add_short).verdict 7
-    ∷ accepts (read_of (add 56 (0 ∷ []))).verdict
+    ∷ refuses (read_of add_short) 7
+    ∷ accepts (read_of (add 56 (0 ∷ [])))
     ∷ eqb (decision 1 (carrying 1 add_short)) 7
     ∷ eqb (decision 1 (carrying 1 (add 56 (0 ∷ [])))) 0
     -- P7, P8

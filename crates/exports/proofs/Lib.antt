@@ -1,4 +1,3 @@
 -- Laws of `exports`' definitions.
 pub mod Told
-pub mod OrderPlaces
 pub mod Handed

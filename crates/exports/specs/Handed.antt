@@ -6,7 +6,6 @@ use Rattle.merge.specs.State.{take_all}
 use Rattle.window_taking.specs.Turns.{end_from, packets_in}
 use Rattle.session.specs.Meaning.{Meaning, overnight}
 use Rattle.session.specs.Bursts.{rows_of}
-use Rattle.session.specs.declared.advancing.Ended.{Ended}
 use Rattle.exports.specs.declared.taking.Plan.{Plan}
 use Rattle.single.specs.Over.{over}
 
@@ -46,6 +45,3 @@ plan_of single count n =
     let one = not (eqb single 0) in
     let most = cond one 1 count in
     record { one = one; due = cond (leb most (n / 4)) most 0; fits = leb most (n / 4) }
-
-abbrev pub told_of : Bool → Ended → List ℕ
-told_of fits ended = cond fits 0 11 ∷ ended.taken ∷ ended.at ∷ []

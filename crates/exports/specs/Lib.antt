@@ -1,6 +1,5 @@
 -- What `exports` promises: the packets that lent bytes are, and the numbers in which an export tells its answer.
 pub mod Told
-pub mod OrderPlaces
 pub mod Handed
 pub mod Applied
 pub mod Kept

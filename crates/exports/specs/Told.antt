@@ -1,18 +1,13 @@
 -- The numbers in which an export tells an answer. Where it refuses, what was lent for them stays as it was.
 -- Assumes nothing.
-use Rattle.std.specs.Prelude.{List, [], ◌∷◌, ℕ, get_or, length}
+use Rattle.std.specs.Prelude.{List, [], ◌∷◌, ℕ, get_or, length, Result}
+use Rattle.refusals.specs.declared.Refusal.{Refusal}
 use Rattle.wire.specs.Number.{num, part}
-use Rattle.window.specs.declared.asking.Asked.{Asked}
-use Rattle.window.specs.declared.asking.Asked.TheVariants as asked
 use Rattle.window.specs.declared.missing.Gap.{Gap}
 use Rattle.book.specs.Lookup.{back_of, front_of}
-use Rattle.book.specs.declared.asking.InsideReply.{InsideReply}
-use Rattle.book.specs.declared.asking.OrderReply.{OrderReply}
-use Rattle.book.specs.declared.asking.Reply.{Reply}
-use Rattle.book.specs.declared.asking.Reply.TheVariants.{Known, Refused}
 use Rattle.book.specs.declared.tables.Inside.{Inside}
 use Rattle.book.specs.declared.tables.Order.{Order}
-use Rattle.single.specs.Over.{over}
+use Rattle.single.specs.Told.{told_by}
 use Rattle.session.specs.Meaning.{Meaning, code_in, end_in, faults_in, live_in, next_in}
 
 -- ---- of a session: next, end, how many orders are live and insides held, the code, and of the faults the first one's number, their
@@ -29,10 +24,6 @@ numbers_of x =
 
 -- ---- of a reply: the record's numbers
 
-abbrev pub told_by : Reply → List ℕ → List ℕ → List ℕ
-told_by Known ns old = over ns old
-told_by (Refused number) ns old = old
-
 -- a firm's four bytes as a number
 abbrev pub firm_number : List ℕ → ℕ
 firm_number firm = num (part firm 0 4)
@@ -41,26 +32,16 @@ abbrev pub order_numbers : Order → List ℕ
 order_numbers o =
     o.id ∷ o.price ∷ o.shares ∷ firm_number o.firm ∷ front_of o.symbol ∷ back_of o.symbol ∷ o.side ∷ o.unsolicited ∷ []
 
-abbrev pub order_told : OrderReply → List ℕ → List ℕ
-order_told r old = told_by r.reply (order_numbers r.order) old
+abbrev pub order_told : Result Order Refusal → List ℕ → List ℕ
+order_told = told_by order_numbers
 
 abbrev pub inside_numbers : Inside → List ℕ
 inside_numbers i = i.ask ∷ i.bid ∷ i.time ∷ i.askvolume ∷ i.bidvolume ∷ i.unsolicited ∷ []
 
-abbrev pub inside_told : InsideReply → List ℕ → List ℕ
-inside_told r old = told_by r.reply (inside_numbers r.inside) old
+abbrev pub inside_told : Result Inside Refusal → List ℕ → List ℕ
+inside_told = told_by inside_numbers
 
--- ---- of what is missing: how many requests, or the refusal; a run's start and count
-
-abbrev pub asked_refusal : Asked → ℕ
-asked_refusal (asked.Count n) = 0
-asked_refusal (asked.Refused number) = number
-
-abbrev pub asked_told : Asked → List ℕ → List ℕ
-asked_told (asked.Count n) old = over (n ∷ []) old
-asked_told (asked.Refused number) old = old
+-- ---- of a run of missing numbers: its start and count
 
 abbrev pub gap_numbers : Gap → List ℕ
 gap_numbers gap = gap.start ∷ gap.count ∷ []
-
--- ---- of many questions: the refusal

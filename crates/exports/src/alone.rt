@@ -6,23 +6,24 @@ ghost use Rattle.message.specs.Reading.{read_of};
 ghost use Rattle.packet.specs.Header.{header_of};
 ghost use Rattle.packet.specs.Judging.{judge_of};
 ghost use Rattle.packet.specs.Writing as heading;
+ghost use Rattle.refusals.specs.Refusals.{refusal_in};
 ghost use Rattle.single.specs.Given.{given_buffer, given_of};
 ghost use Rattle.single.specs.Over.{over};
-ghost use Rattle.single.specs.Told.{header_refusal, header_told, id_refusal, id_told, packed, written_refusal, written_told};
+ghost use Rattle.single.specs.Told.{header_told, number_told, packed};
 ghost use Rattle.single.specs.Walks.{places_after, walk_numbers, walk_refusal};
-ghost use Rattle.single.specs.Words.{message_refusal, message_told};
+ghost use Rattle.single.specs.Words.{message_told};
 
 // The value of an id; 12 where the id breaks its rule.
 pub fn jangsebit_value(id: &[u8; 14], told: &mut [u64; 1]) -> u64
-    ensures refusal { result ≡ id_refusal (id_answer id.now) }
-    ensures told { told.new ≡ id_told (id_answer id.now) told.old }
+    ensures refusal { result ≡ refusal_in (id_answer id.now) }
+    ensures told { told.new ≡ number_told (id_answer id.now) told.old }
 {
     single::ids::value(id, told)
 }
 
 // Of a packet's header its size, number, flag, count of messages and milliseconds; or the first of 1 to 6.
 pub fn jangsebit_header(packet: &[u8], told: &mut [u64; 5]) -> u64
-    ensures refusal { result ≡ header_refusal (header_of packet.now) }
+    ensures refusal { result ≡ refusal_in (header_of packet.now) }
     ensures told { told.new ≡ header_told (header_of packet.now) told.old }
 {
     single::headers::read(packet, told)
@@ -37,7 +38,7 @@ pub fn jangsebit_write_header(
     milli: u32,
     buf: &mut [u8],
 ) -> u64
-    ensures refusal { result ≡ written_refusal (heading.answer_of (packed size seq flag messages milli) (length buf.old)) }
+    ensures refusal { result ≡ refusal_in (heading.answer_of (packed size seq flag messages milli) (length buf.old)) }
     ensures buffer { buf.new ≡ heading.buffer_after (packed size seq flag messages milli) buf.old }
 {
     single::headers::write(size, seq, flag, messages, milli, buf)
@@ -64,7 +65,7 @@ pub fn jangsebit_walk(packet: &[u8], places: &mut [u64], told: &mut [u64; 2]) ->
 // The message that the bytes are: its type, then its fields in the order of its layout, a text of 14 bytes as its first
 // eight, the next four and the last two; of 28 and unlisted types the type alone. Or 7, then 14.
 pub fn jangsebit_message(bytes: &[u8], told: &mut [u64; 14]) -> u64
-    ensures refusal { result ≡ message_refusal (read_of bytes.now) }
+    ensures refusal { result ≡ refusal_in (read_of bytes.now) }
     ensures told { told.new ≡ message_told (read_of bytes.now) told.old }
 {
     single::messages::read(bytes, told)
@@ -78,9 +79,9 @@ pub fn jangsebit_write_message(
     at: usize,
     told: &mut [u64; 1],
 ) -> u64
-    ensures refusal { result ≡ written_refusal (given_of numbers.now buf.old at) }
+    ensures refusal { result ≡ refusal_in (given_of numbers.now buf.old at) }
     ensures buffer { buf.new ≡ given_buffer numbers.now buf.old at }
-    ensures told { told.new ≡ written_told (given_of numbers.now buf.old at) told.old }
+    ensures told { told.new ≡ number_told (given_of numbers.now buf.old at) told.old }
 {
     single::messages::write(numbers, buf, at, told)
 }

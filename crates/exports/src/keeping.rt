@@ -6,26 +6,14 @@ ghost use Rattle.session.specs.Asking.{line_in};
 ghost use Rattle.session.specs.declared.state.Session.{Session};
 ghost use Rattle.session_keeping.specs.Keeping.{answers_kept, burst_kept, kept_of};
 ghost use Rattle.exports.specs.Handed.{taken_told};
-ghost use Rattle.exports.specs.Kept.{count_numbers, kept_refusal, kept_told};
-ghost use Rattle.single.specs.Over.{over};
+ghost use Rattle.refusals.specs.Refusals.{refusal_in};
+ghost use Rattle.single.specs.Told.{number_told};
 
+use crate::taking::tell_all;
 use book_room::room::Room;
-use session::packets::Count;
-use session_keeping::keeping::Kept;
+use session_keeping::keeping::{keep, keep_burst};
+use single::telling::{number, tell};
 use window::places::Window;
-
-fn tell_kept(told: &mut [u64; 1], kept: Kept) -> u64
-    ensures refusal { result ≡ kept_refusal kept }
-    ensures told { told.new ≡ kept_told kept told.old }
-{
-    match kept {
-        Kept::Fresh(fresh) => {
-            told[0] = fresh;
-            0
-        }
-        Kept::Refused(number) => number as u64,
-    }
-}
 
 // One packet judged, its messages kept until they are applied. Told is how many of its numbers now wait that did not
 // before. The answer is the refusal, 1 to 10, and then nothing has changed, else 0.
@@ -36,30 +24,12 @@ pub fn jangsebit_keep(
     told: &mut [u64; 1],
 ) -> u64
     requires { (session : Session) × Ruled (held session room.old window.old) }
-    ensures refusal { result ≡ kept_refusal (kept_of (line_in room.old window.old) packet.now) }
-    ensures told { told.new ≡ kept_told (kept_of (line_in room.old window.old) packet.now) told.old }
+    ensures refusal { result ≡ refusal_in (kept_of (line_in room.old window.old) packet.now) }
+    ensures told { told.new ≡ number_told (kept_of (line_in room.old window.old) packet.now) told.old }
     ensures held { (session : Session) → Ruled (held session room.old window.old) → held session room.new window.new ≡ rep (keep_one overnight (view (held session room.old window.old)) packet.now) }
     ensures rule { (session : Session) → Ruled (held session room.old window.old) → Ruled (held session room.new window.new) }
 {
-    let kept = session_keeping::keeping::keep(room, window, packet);
-    tell_kept(told, kept)
-}
-
-fn tell_all(told: &mut [u64; 3], count: Count, bytes: usize)
-    ensures { told.new ≡ over (count_numbers count bytes) told.old }
-{
-    match count {
-        Count::Packets(packets) => {
-            told[0] = 0;
-            told[1] = packets as u64;
-            told[2] = bytes as u64;
-        }
-        Count::Refused(number) => {
-            told[0] = number as u64;
-            told[1] = 0;
-            told[2] = bytes as u64;
-        }
-    }
+    tell(told, keep(room, window, packet).map(number))
 }
 
 // The first packets of the lent bytes, each behind its length of 2 bytes: as many as the count says, or all that there
@@ -80,7 +50,6 @@ pub fn jangsebit_keep_packets(
     ensures held { (session : Session) → Ruled (held session room.old window.old) → held session room.new window.new ≡ rep (burst_kept (view (held session room.old window.old)) packets.now count (length answers.old)) }
     ensures rule { (session : Session) → Ruled (held session room.old window.old) → Ruled (held session room.new window.new) }
 {
-    let kept = session_keeping::keeping::keep_burst(room, window, packets, count as usize, answers);
-    let all = kept.count;
-    tell_all(told, all, kept.bytes);
+    let kept = keep_burst(room, window, packets, count as usize, answers);
+    tell_all(told, kept.count, kept.bytes);
 }

@@ -19,7 +19,8 @@ ghost use Rattle.book.specs.Asking.{order_asked};
 ghost use Rattle.book.specs.Tables.{fresh};
 ghost use Rattle.book.specs.declared.tables.OpeningRule.TheVariants.{Default, Strict};
 ghost use Rattle.exports.specs.Handed.{answers_by, taken_by, taken_told};
-ghost use Rattle.session.specs.Quoting.{quoted_of, quotes_after, refusal_in};
+ghost use Rattle.refusals.specs.Refusals.{refusal_in};
+ghost use Rattle.session.specs.Quoting.{quoted_of, quotes_after};
 ghost use Rattle.exports.specs.Told.{order_told};
 
 pub use alone::{
@@ -30,10 +31,14 @@ pub use asking::{
     jangsebit_gap, jangsebit_inside, jangsebit_lowest, jangsebit_numbers, jangsebit_requests,
     jangsebit_rule, jangsebit_unlisted,
 };
+use book::tables::OpeningRule;
 use book_room::room::Room;
 pub use keeping::{jangsebit_keep, jangsebit_keep_packets};
 pub use passing::jangsebit_pass;
+use refusals::number_in;
+use session::packets::count_of;
 use session::state::Session;
+use single::telling::tell;
 pub use sizes::jangsebit_sizes;
 use window::places::Window;
 
@@ -51,7 +56,7 @@ pub fn jangsebit_open(session: &mut Session, room: &mut Room, window: &mut Windo
     ensures opened { held session.new room.new window.new ≡ rep (opened (fresh Default) number) }
     ensures rule { Ruled (held session.new room.new window.new) }
 {
-    *session = taking::open(room, window, number);
+    *session = Session::open(number, OpeningRule::Default, room, window);
 }
 
 // The same under the strict rule: a type that is not in the table is fault 1.
@@ -65,7 +70,7 @@ pub fn jangsebit_open_strict(
     ensures opened { held session.new room.new window.new ≡ rep (opened (fresh Strict) number) }
     ensures rule { Ruled (held session.new room.new window.new) }
 {
-    *session = taking::open_strict(room, window, number);
+    *session = Session::open(number, OpeningRule::Strict, room, window);
 }
 
 // The first packets of the lent bytes, each behind its length of 2 bytes: as many as the count says, or all that there
@@ -92,7 +97,7 @@ pub fn jangsebit_packets(
     let ended = session_lent::run(
         session, room, window, packets, plan.one, plan.due, answers, 0,
     );
-    taking::tell(told, plan.fits, ended);
+    taking::tell_all(told, count_of(plan.fits, ended.taken), ended.at);
 }
 
 // Applies up to so many of the messages that wait from next on, in their order. The answer is how many.
@@ -128,12 +133,10 @@ pub fn jangsebit_apply(
 // live, else 0.
 pub fn jangsebit_order(session: &Session, room: &Room, id: &[u8; 14], told: &mut [u64; 8]) -> u64
     requires { (window : List ℕ) × Ruled (held session.now room.now window) }
-    ensures refusal { result ≡ refusal_in (order_asked (tables_in session.now room.now) id.now).reply }
+    ensures refusal { result ≡ refusal_in (order_asked (tables_in session.now room.now) id.now) }
     ensures told { told.new ≡ order_told (order_asked (tables_in session.now room.now) id.now) told.old }
 {
-    let located = asking::locate(room, id);
-    let there = session.orders[located.place];
-    asking::tell_at(told, located, there)
+    tell(told, asking::order(session, room, id).map(asking::order_numbers))
 }
 
 // The best prices of many symbols and sides, 15 bytes a question. Four numbers answer each: the refusal or 0, the
@@ -144,5 +147,6 @@ pub fn jangsebit_quotes(session: &Session, room: &Room, asked: &[u8], replies: &
     ensures refusal { result ≡ quoted_of (length asked.now) (length replies.old) }
     ensures replies { replies.new ≡ quotes_after (tables_in session.now room.now) asked.now replies.old }
 {
-    session_quotes::quotes(session, room, asked, replies)
+    let quoted = session_quotes::quotes(session, room, asked, replies);
+    number_in(&quoted) as u64
 }

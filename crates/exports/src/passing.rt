@@ -8,24 +8,25 @@ ghost use Rattle.exports.specs.Passed.{pass_numbers};
 ghost use Rattle.single.specs.Over.{over};
 
 use book_room::room::Room;
-use session_keeping::passing::Passed;
+use refusals::Refusal;
+use session_keeping::passing::{Passed, pass};
 use window::places::Window;
 
-fn tell(told: &mut [u64; 2], passed: Passed)
+fn tell(told: &mut [u64; 2], passed: Result<Passed, Refusal>)
     ensures { told.new ≡ over (pass_numbers passed) told.old }
 {
     match passed {
-        Passed::Applies => {
+        Ok(Passed::Applies) => {
             told[0] = 0;
             told[1] = 0;
         }
-        Passed::Kept => {
+        Ok(Passed::Kept) => {
             told[0] = 1;
             told[1] = 0;
         }
-        Passed::Refused(number) => {
+        Err(refusal) => {
             told[0] = 2;
-            told[1] = number as u64;
+            told[1] = refusal.number() as u64;
         }
     }
 }
@@ -39,6 +40,5 @@ pub fn jangsebit_pass(room: &mut Room, window: &mut Window, packet: &[u8], told:
     ensures held { (session : Session) → Ruled (held session room.old window.old) → held session room.new window.new ≡ rep (pass_on (view (held session room.old window.old)) packet.now) }
     ensures rule { (session : Session) → Ruled (held session room.old window.old) → Ruled (held session room.new window.new) }
 {
-    let passed = session_keeping::passing::pass(room, window, packet);
-    tell(told, passed);
+    tell(told, pass(room, window, packet));
 }

@@ -5,10 +5,11 @@ ghost use Rattle.book.specs.Asking.{inside_for};
 ghost use Rattle.book_room.specs.Room.{insides_in, rule_number};
 ghost use Rattle.session.specs.Meaning.{apart_in, held, rule_in, Ruled};
 ghost use Rattle.session.specs.Asking.{gap_from, gaps_of, line_in, lowest_number};
-ghost use Rattle.session.specs.Quoting.{refusal_in};
+ghost use Rattle.refusals.specs.Refusals.{refusal_in};
 ghost use Rattle.session.specs.declared.state.Session.{Session as Table};
 ghost use Rattle.single.specs.Over.{over};
-ghost use Rattle.exports.specs.Told.{asked_refusal, asked_told, gap_numbers, inside_told, numbers_in};
+ghost use Rattle.single.specs.Told.{number_told};
+ghost use Rattle.exports.specs.Told.{gap_numbers, inside_told, numbers_in};
 
 use book_room::room::Room;
 use window::places::Window;
@@ -52,7 +53,7 @@ pub extern "C" fn jangsebit_unlisted(room: &Room) -> u64
 #[unsafe(no_mangle)]
 pub extern "C" fn jangsebit_inside(room: &Room, symbol: &[u8; 14], told: &mut [u64; 6]) -> u64
     requires { (session : Table) × (window : List ℕ) × Ruled (held session room.now window) }
-    ensures refusal { result ≡ refusal_in (inside_for (insides_in room.now) symbol.now).reply }
+    ensures refusal { result ≡ refusal_in (inside_for (insides_in room.now) symbol.now) }
     ensures told { told.new ≡ inside_told (inside_for (insides_in room.now) symbol.now) told.old }
 {
     exports::jangsebit_inside(room, symbol, told)
@@ -68,9 +69,9 @@ pub extern "C" fn jangsebit_requests(
     told: &mut [u64; 1],
 ) -> u64
     requires { (session : Table) × Ruled (held session room.now window.now) }
-    ensures refusal { result ≡ asked_refusal (asked_of (gaps_of (line_in room.now window.now)) (length buf.old)) }
+    ensures refusal { result ≡ refusal_in (asked_of (gaps_of (line_in room.now window.now)) (length buf.old)) }
     ensures buffer { buf.new ≡ buffer_after (gaps_of (line_in room.now window.now)) buf.old }
-    ensures told { told.new ≡ asked_told (asked_of (gaps_of (line_in room.now window.now)) (length buf.old)) told.old }
+    ensures told { told.new ≡ number_told (asked_of (gaps_of (line_in room.now window.now)) (length buf.old)) told.old }
 {
     exports::jangsebit_requests(room, window, buf, told)
 }

@@ -6,7 +6,8 @@ ghost use Rattle.session.specs.Asking.{line_in};
 ghost use Rattle.session.specs.declared.state.Session.{Session};
 ghost use Rattle.session_keeping.specs.Keeping.{answers_kept, burst_kept, kept_of};
 ghost use Rattle.exports.specs.Handed.{taken_told};
-ghost use Rattle.exports.specs.Kept.{kept_refusal, kept_told};
+ghost use Rattle.refusals.specs.Refusals.{refusal_in};
+ghost use Rattle.single.specs.Told.{number_told};
 
 use book_room::room::Room;
 use window::places::Window;
@@ -21,8 +22,8 @@ pub extern "C" fn jangsebit_keep(
     told: &mut [u64; 1],
 ) -> u64
     requires { (session : Session) × Ruled (held session room.old window.old) }
-    ensures refusal { result ≡ kept_refusal (kept_of (line_in room.old window.old) packet.now) }
-    ensures told { told.new ≡ kept_told (kept_of (line_in room.old window.old) packet.now) told.old }
+    ensures refusal { result ≡ refusal_in (kept_of (line_in room.old window.old) packet.now) }
+    ensures told { told.new ≡ number_told (kept_of (line_in room.old window.old) packet.now) told.old }
     ensures held { (session : Session) → Ruled (held session room.old window.old) → held session room.new window.new ≡ rep (keep_one overnight (view (held session room.old window.old)) packet.now) }
     ensures rule { (session : Session) → Ruled (held session room.old window.old) → Ruled (held session room.new window.new) }
 {

@@ -16,7 +16,8 @@ ghost use Rattle.book.specs.Asking.{order_asked};
 ghost use Rattle.book.specs.Tables.{fresh};
 ghost use Rattle.book.specs.declared.tables.OpeningRule.TheVariants.{Default, Strict};
 ghost use Rattle.exports.specs.Handed.{answers_by, taken_by, taken_told};
-ghost use Rattle.session.specs.Quoting.{quoted_of, quotes_after, refusal_in};
+ghost use Rattle.refusals.specs.Refusals.{refusal_in};
+ghost use Rattle.session.specs.Quoting.{quoted_of, quotes_after};
 ghost use Rattle.exports.specs.Told.{order_told};
 
 pub use alone::{
@@ -124,7 +125,7 @@ pub extern "C" fn jangsebit_order(
     told: &mut [u64; 8],
 ) -> u64
     requires { (window : List ℕ) × Ruled (held session.now room.now window) }
-    ensures refusal { result ≡ refusal_in (order_asked (tables_in session.now room.now) id.now).reply }
+    ensures refusal { result ≡ refusal_in (order_asked (tables_in session.now room.now) id.now) }
     ensures told { told.new ≡ order_told (order_asked (tables_in session.now room.now) id.now) told.old }
 {
     exports::jangsebit_order(session, room, id, told)

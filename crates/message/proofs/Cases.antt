@@ -6,7 +6,7 @@ use mathlib.Core.List.{List, [], ◌∷◌, map}
 use Prim.Native.Nat.{ℕ, zero, suc, ◌+◌, ◌≤◌, ◌<◌}
 use native.Mathlib.Nat.{le_of_suc-le-suc, not-suc-le-zero}
 use native.Mathlib.Omega.{arith}
-use borrow.Author.Tests.{eqb-false, eqb-true, ltb-false, ltb-true, ne_eqb}
+use borrow.Author.Tests.{eq-eqb, eqb-false, eqb-true, ltb-false, ltb-true, ne_eqb}
 use lib.Dec.{eqb, ltb}
 use lib.ListN.{get_or}
 use Rattle.wire.specs.Choice.{listed_at}
@@ -16,7 +16,8 @@ use Rattle.fields.specs.Rules.{good_price, good_quantity}
 use Rattle.message.specs.Layouts.{layout_of}
 use Rattle.message.specs.Row.{bare, fields_of, message_of, price_of, type_of_terms}
 use Rattle.message.specs.Rules.{FieldRule, broken_by, broken_of, broken_or, first_broken, keeps, number, placed, rules_of}
-use Rattle.message.specs.Table.{below, payload_of, payloads, payload_table, tabulate, too_short}
+use Rattle.std.proofs.Common.{Option, Some, None}
+use Rattle.message.specs.Table.{below, payload_listed, payload_of, payloads, payload_table, tabulate, too_short}
 use Rattle.message.specs.declared.kinds.Body.TheVariants.{Execution, Other}
 use Rattle.message.specs.declared.kinds.Terms.{Terms}
 use Rattle.message.specs.declared.kinds.Terms.TheVariants.{Published, Own}
@@ -121,6 +122,25 @@ behind_row row rows n k last false e h far rest = let z : ◌≡◌ {A = ℕ} 0 
 behind : (rows : List (ℕ × ℕ)) (n k last : ℕ) → all_below n rows ≡ true → n ≤ k → listed_at k rows last ≡ last
 behind [] n k last h far = refl
 behind (row ∷ rows) n k last h far = behind_row row rows n k last (ltb row.0 n) refl h far (λ rest. behind rows n k last rest far)
+
+-- the payload of a type that may be listed, and whether n bytes are too few for it
+pub listed-none : (k : ℕ) → 255 ≡ payload_of k → None ≡ payload_listed k
+listed-none k e = simp (eq-eqb _ _ (sym e))
+
+pub listed-some : (k p : ℕ) → p ≡ payload_of k → (p ≡ 255 → ⊥) → Some p ≡ payload_listed k
+listed-some k p e some = simp (ne_eqb (payload_of k) 255 (λ all. some (e ∙ all))) (ap Some e)
+
+pub too_few : (k n : ℕ) {p : ℕ} → payload_listed k ≡ Some p → ltb n (3 + p) ≡ too_short k n
+too_few k n {p} e = by_payload (eqb (payload_of k) 255) refl e where
+  by_payload : (b : Bool) → eqb (payload_of k) 255 ≡ b → payload_listed k ≡ Some p → ltb n (3 + p) ≡ too_short k n
+  by_payload true all e = let z : ◌≡◌ {A = Option ℕ} None (Some p) = rw all at e in let one : ◌≡◌ {A = ℕ} 0 1 = cc in absurd (omega arith)
+  by_payload false some e = let z : ◌≡◌ {A = Option ℕ} (Some (payload_of k)) (Some p) = rw some at e in let is : payload_of k ≡ p = cc in simp some (ap (λ (m : ℕ). ltb n (3 + m)) (sym is))
+
+pub none_needed : (k n : ℕ) → payload_listed k ≡ None → false ≡ too_short k n
+none_needed k n e = by_payload (eqb (payload_of k) 255) refl e where
+  by_payload : (b : Bool) → eqb (payload_of k) 255 ≡ b → payload_listed k ≡ None → false ≡ too_short k n
+  by_payload true all e = simp all
+  by_payload false some e = let z : ◌≡◌ {A = Option ℕ} (Some (payload_of k)) None = rw some at e in let one : ◌≡◌ {A = ℕ} 0 1 = cc in absurd (omega arith)
 
 pub unlisted-behind : (k : ℕ) → 32 ≤ k → 255 ≡ payload_of k
 unfolding payload_of

@@ -17,7 +17,7 @@ pub fn security(s: &[u8]) -> SecurityFields
     ensures { result ≡ security_in (row_in layouts.security s.now) }
 {
     SecurityFields {
-        symbol: wire::text14_at(s, 3),
+        symbol: wire::text_at(s, 3),
         updated: wire::u64_at(s, 17),
         action: wire::u8_at(s, 25),
         class: wire::u8_at(s, 26),
@@ -69,7 +69,7 @@ pub fn named(s: &[u8]) -> Named
 {
     Named {
         time: wire::u32_at(s, 3),
-        id: wire::text14_at(s, 7),
+        id: wire::text_at(s, 7),
     }
 }
 
@@ -115,7 +115,7 @@ fn deal(s: &[u8], at: usize) -> Deal
     Deal {
         side: wire::u8_at(s, at),
         quantity: wire::u32_at(s, at + 1),
-        symbol: wire::text14_at(s, at + 5),
+        symbol: wire::text_at(s, at + 5),
         price: wire::u64_at(s, at + 19),
     }
 }
@@ -127,7 +127,7 @@ pub fn add(s: &[u8]) -> AddFields
     AddFields {
         named: named(s),
         deal: deal(s, 21),
-        firm: wire::text4_at(s, 48),
+        firm: wire::text_at(s, 48),
         unsolicited: wire::u8_at(s, 52),
         flags: wire::u16_at(s, 53),
     }
@@ -161,7 +161,7 @@ pub fn top(s: &[u8]) -> TopFields
 {
     TopFields {
         time: wire::u32_at(s, 3),
-        symbol: wire::text14_at(s, 7),
+        symbol: wire::text_at(s, 7),
         ask: quote(s, 21),
         bid: quote(s, 33),
         unsolicited: wire::u8_at(s, 45),

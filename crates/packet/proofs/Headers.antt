@@ -1,7 +1,7 @@
 -- Which test decides a header: one law for each way out, over plain values; and what holds where none applies.
 -- Assumes nothing.
 use mathlib.Core.Path.{◌≡◌, refl, ap, ◌∙◌, sym}
-use mathlib.Core.Bool.{Bool, true, false}
+use mathlib.Core.Bool.{Bool, true, false, true≢false}
 use mathlib.Core.List.{List}
 use Prim.Native.Nat.{ℕ, ◌≤◌, ◌<◌}
 use native.Mathlib.Omega.{arith}
@@ -9,14 +9,25 @@ use borrow.Author.Tests.{lt-ltb, le-ltb, eq-eqb, ne_eqb, ltb-false, eqb-true}
 use lib.Dec.{ltb, eqb}
 use lib.ListN.{length}
 use Rattle.wire.specs.Layout.{Value, number_in}
-use Rattle.packet.specs.Header.{header_from, header_in, header_tests, flags_of, decided, judged, header_of}
+use Rattle.std.proofs.Common.{Result, Ok, Err, is_err, IsErrAnd}
+use Rattle.std.proofs.lemmas.Result.{err_from_is_err_and}
+use Rattle.refusals.specs.Refusals.{number_of, refusal_by}
+use Rattle.refusals.specs.declared.Refusal.{Refusal}
+use Rattle.refusals.proofs.Numbers.{answered_err, by_number, some_number}
+use Rattle.packet.specs.Header.{Judged, header_from, header_in, header_tests, flags_of, decided, judged, header_of, told}
 use Rattle.packet.specs.declared.header.Header.{Header}
-use Rattle.packet.specs.declared.header.HeaderAnswer.TheVariants.{Fields, Refused}
-use Rattle.packet.specs.declared.header.Judged.{Judged}
+use Rattle.packet.specs.declared.header.Rejection.{Rejection}
 
 -- a header whose fields are the values of a row is the header of that row
 pub row_is : (row : List Value) {size seq flag messages milli : ℕ} → size ≡ number_in row 0 → seq ≡ number_in row 1 → flag ≡ number_in row 2 → messages ≡ number_in row 3 → milli ≡ number_in row 4 → ◌≡◌ {A = Header} (record { size = size; seq = seq; flag = flag; messages = messages; milli = milli }) (header_from row)
 row_is row e0 e1 e2 e3 e4 = cc
+
+pub no_number : (r : Rejection) → number_of r.refusal ≡ 0 → ⊥
+no_number r h = absurd (true≢false (sym (eq-eqb _ _ h) ∙ some_number r.refusal))
+
+same_rejection : (r q : Rejection) → r.refusal ≡ q.refusal → r.offset ≡ q.offset → r ≡ q
+same_rejection r q e f =
+    ap (λ (x : Refusal). record { refusal = x; offset = r.offset }) e ∙ ap (λ (n : ℕ). record { refusal = q.refusal; offset = n }) f
 
 module _ (s : List ℕ) where
   pub few : length s < 12 → judged (1, 0) ≡ judged (decided (header_tests s))
@@ -69,17 +80,36 @@ module _ (s : List ℕ) where
           absurd (omega arith)
       short false e₁ = long e₁ (ltb 1472 (length s)) refl
 
-  module _ {answer : Judged} (told : answer ≡ judged (decided (header_tests s))) where
-    number : answer.test ≡ (decided (header_tests s)).0
-    number = ap (λ (x : Judged). x.test) told
+  pub none : told (Ok tt) ≡ judged (decided (header_tests s)) → (decided (header_tests s)).0 ≡ 0
+  none said = sym (ap (λ (x : Judged). x.test) said)
 
-    pub refused : (answer.test ≡ 0 → ⊥) → Refused answer.test ≡ header_of s
-    unfolding header_of
-    refused h = simp (← number, ne_eqb _ _ h)
+  pub whole : {header : Header} → (decided (header_tests s)).0 ≡ 0 → header ≡ header_in s → Ok header ≡ header_of s
+  unfolding header_of
+  whole good read = simp (eq-eqb _ _ good) (ap Ok read)
 
-    pub good : answer.test ≡ 0 → Passed
-    good h = passed (sym number ∙ h)
+  pub refused : (rejection : Rejection) → number_of rejection.refusal ≡ (decided (header_tests s)).0 → Err rejection.refusal ≡ header_of s
+  unfolding header_of
+  refused rejection number = simp (← number) (sym (answered_err (header_in s) rejection.refusal))
 
-    pub whole : {header : Header} → answer.test ≡ 0 → header ≡ header_in s → Fields header ≡ header_of s
-    unfolding header_of
-    whole h read = simp (← number, eq-eqb _ _ h) (ap Fields read)
+  pub refused_by : {answer : Result Header Refusal} (rejection : Rejection) → told (Err rejection) ≡ judged (decided (header_tests s)) → IsErrAnd answer (λ refusal. refusal ≡ rejection.refusal) → answer ≡ header_of s
+  refused_by {answer} rejection said h =
+      let e = err_from_is_err_and answer h in
+      e.1 ∙ ap Err e.2 ∙ refused rejection (ap (λ (x : Judged). x.test) said)
+
+-- a test decides exactly where the answer is a rejection
+pub one_tests : (answer : Result (Unit {0}) Rejection) {row : ℕ × ℕ} → told answer ≡ judged row → true ≡ is_err answer → row.0 ≡ 0 → ⊥
+one_tests (Ok u) said e z = absurd (true≢false e)
+one_tests (Err r) said e z = no_number r (ap (λ (x : Judged). x.test) said ∙ z)
+
+pub none_tests : (answer : Result (Unit {0}) Rejection) {row : ℕ × ℕ} → told answer ≡ judged row → false ≡ is_err answer → row.0 ≡ 0
+none_tests (Ok u) said e = sym (ap (λ (x : Judged). x.test) said)
+none_tests (Err r) said e = absurd (true≢false (sym e))
+
+-- what an answer says of the test that decides tells it from every other
+pub told_once : (one other : Result (Unit {0}) Rejection) → told one ≡ told other → one ≡ other
+told_once (Ok u) (Ok v) h = refl
+told_once (Ok u) (Err r) h = absurd (no_number r (sym (ap (λ (x : Judged). x.test) h)))
+told_once (Err r) (Ok u) h = absurd (no_number r (ap (λ (x : Judged). x.test) h))
+told_once (Err r) (Err q) h =
+    let number : number_of r.refusal ≡ number_of q.refusal = ap (λ (x : Judged). x.test) h in
+    ap Err (same_rejection r q (sym (by_number r.refusal) ∙ ap refusal_by number ∙ by_number q.refusal) (ap (λ (x : Judged). x.offset) h))

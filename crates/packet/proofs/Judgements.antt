@@ -8,13 +8,15 @@ use native.Mathlib.Omega.{arith}
 use borrow.Author.Tests.{lt-ltb, le-ltb, eq-eqb, ne_eqb}
 use lib.Dec.{eqb}
 use Rattle.wire.specs.Choice.{first_of}
-use Rattle.packet.specs.Header.{Test, decided, flag_tests, heartbeat, header_in, header_tests, judged}
+use Rattle.packet.specs.Header.{Judged, Test, decided, flag_tests, heartbeat, header_in, header_tests, judged, told}
 use Rattle.packet.specs.Judging.{body_tests, last_of, packet_tests, judge_of, unless_heartbeat}
 use Rattle.packet.specs.Walk.{walk_from}
 use Rattle.packet.specs.declared.header.Header.{Header}
-use Rattle.packet.specs.declared.header.Judged.{Judged}
-use Rattle.packet.specs.declared.walk.Walked.{Walked}
-use Rattle.packet.specs.declared.walk.Walked.TheVariants.{Whole, Broken}
+use Rattle.packet.specs.declared.header.Rejection.{Rejection}
+use Rattle.packet.proofs.Headers.{no_number, none}
+use Rattle.refusals.specs.Refusals.{number_of}
+use Rattle.std.proofs.Common.{Result, Ok, Err, IsErrAnd, Option, Some, None}
+use Rattle.std.proofs.lemmas.Result.{err_from_is_err_and}
 
 pub joined : (xs ys : List Test) (d : ℕ × ℕ) → first_of (xs ++ ys) d ≡ first_of xs (first_of ys d)
 joined [] ys d = refl
@@ -60,23 +62,20 @@ unfolding header_tests flag_tests
 header_numbered s = refl
 
 -- 7 and 8, by how the walk ended
-module _ {walked : Walked} (seq messages : ℕ) where
-  pub body_broken : {at : ℕ} → walked ≡ Broken at → judged (7, at) ≡ judged (decided (body_tests walked seq messages))
+module _ {walked : Option ℕ} (seq messages : ℕ) where
+  pub body_broken : {at : ℕ} → walked ≡ Some at → judged (7, at) ≡ judged (decided (body_tests walked seq messages))
   unfolding body_tests
   body_broken e = rw e
 
-  pub body_past : walked ≡ Whole → 4294967296 < seq + messages → judged (8, 2) ≡ judged (decided (body_tests walked seq messages))
+  pub body_past : walked ≡ None → 4294967296 < seq + messages → judged (8, 2) ≡ judged (decided (body_tests walked seq messages))
   unfolding body_tests
   body_past e h = rw (e, lt-ltb 4294967295 (last_of seq messages) (omega arith))
 
-  pub body_good : walked ≡ Whole → seq + messages ≤ 4294967296 → judged (0, 0) ≡ judged (decided (body_tests walked seq messages))
+  pub body_good : walked ≡ None → seq + messages ≤ 4294967296 → judged (0, 0) ≡ judged (decided (body_tests walked seq messages))
   unfolding body_tests
   body_good e h = rw (e, le-ltb 4294967295 (last_of seq messages) (omega arith))
 
-module _ (s : List ℕ) {answer : Judged} (told : answer ≡ judged (decided (header_tests s))) where
-  number : answer.test ≡ (decided (header_tests s)).0
-  number = ap (λ (x : Judged). x.test) told
-
+module _ (s : List ℕ) where
   -- the tests behind the header's, as one list
   more : List Test
   more = unless_heartbeat (heartbeat (header_in s).flag) (body_tests (walk_from (header_in s).messages 12 s) (header_in s).seq (header_in s).messages)
@@ -85,11 +84,17 @@ module _ (s : List ℕ) {answer : Judged} (told : answer ≡ judged (decided (he
   unfolding judge_of packet_tests more
   apart = ap judged (joined (header_tests s) more (0, 0))
 
-  pub head_decides : (answer.test ≡ 0 → ⊥) → answer ≡ judge_of s
-  head_decides h = told ∙ sym (apart ∙ ap judged (decides (header_tests s) (decided more) (λ e. h (number ∙ e))))
+  -- a rejection by the header decides
+  pub head_decides : (answer : Result (Unit {0}) Rejection) (rejection : Rejection) → told (Err rejection) ≡ judged (decided (header_tests s)) → IsErrAnd answer (λ other. other ≡ rejection) → told answer ≡ judge_of s
+  head_decides answer rejection said h =
+      let e = err_from_is_err_and answer h in
+      let number : number_of rejection.refusal ≡ (decided (header_tests s)).0 = ap (λ (x : Judged). x.test) said in
+      ap told (e.1 ∙ ap Err e.2)
+      ∙ said
+      ∙ sym (apart ∙ ap judged (decides (header_tests s) (decided more) (λ z. no_number rejection (number ∙ z))))
 
-  -- of a header that was read
-  module _ {head : Header} (read : head ≡ header_in s) where
+  -- of a header that no test refuses and that was read
+  module _ (good : told (Ok tt) ≡ judged (decided (header_tests s))) {head : Header} (read : head ≡ header_in s) where
     flag : head.flag ≡ (header_in s).flag
     flag = ap (λ (x : Header). x.flag) read
 
@@ -97,19 +102,19 @@ module _ (s : List ℕ) {answer : Judged} (told : answer ≡ judged (decided (he
     unfolding more
     beating h = simp (eq-eqb ((header_in s).flag % 2) 1 (ap (λ (n : ℕ). n % 2) (sym flag) ∙ h))
 
-    pub beats : head.flag % 2 ≡ 1 → answer ≡ judge_of s
-    beats h = told ∙ sym (apart ∙ ap (λ (d : ℕ × ℕ). judged (first_of (header_tests s) d)) (beating h))
+    pub beats : head.flag % 2 ≡ 1 → told (Ok tt) ≡ judge_of s
+    beats h = good ∙ sym (apart ∙ ap (λ (d : ℕ × ℕ). judged (first_of (header_tests s) d)) (beating h))
 
     -- the tests of a body are those of the header that was read
-    bodied : (walked : Walked) → walked ≡ walk_from head.messages 12 s → (head.flag % 2 ≡ 1 → ⊥) → more ≡ body_tests walked head.seq head.messages
+    bodied : (fault : Option ℕ) → fault ≡ walk_from head.messages 12 s → (head.flag % 2 ≡ 1 → ⊥) → more ≡ body_tests fault head.seq head.messages
     unfolding more
-    bodied walked e h =
+    bodied fault e h =
         simp (ne_eqb ((header_in s).flag % 2) 1 (λ p. h (ap (λ (n : ℕ). n % 2) flag ∙ p)))
-        (sym (ap (λ (w : Walked). body_tests w head.seq head.messages) e
+        (sym (ap (λ (w : Option ℕ). body_tests w head.seq head.messages) e
         ∙ ap (λ (x : Header). body_tests (walk_from x.messages 12 s) x.seq x.messages) read))
 
-    pub body_decides : {walked : Walked} {r : Judged} → answer.test ≡ 0 → (head.flag % 2 ≡ 1 → ⊥) → walked ≡ walk_from head.messages 12 s → r ≡ judged (decided (body_tests walked head.seq head.messages)) → r ≡ judge_of s
-    body_decides {walked} none h e said =
+    pub body_decides : {fault : Option ℕ} {r : Judged} → (head.flag % 2 ≡ 1 → ⊥) → fault ≡ walk_from head.messages 12 s → r ≡ judged (decided (body_tests fault head.seq head.messages)) → r ≡ judge_of s
+    body_decides {fault} h e said =
         said
-        ∙ ap (λ (tests : List Test). judged (decided tests)) (sym (bodied walked e h))
-        ∙ sym (apart ∙ ap judged (passes (header_tests s) (decided more) (header_numbered s) (sym number ∙ none)))
+        ∙ ap (λ (tests : List Test). judged (decided tests)) (sym (bodied fault e h))
+        ∙ sym (apart ∙ ap judged (passes (header_tests s) (decided more) (header_numbered s) (none s good)))

@@ -1,16 +1,16 @@
 -- One step of the walk, by the test that decides it, and what a step does to the rest of the walk.
 -- Assumes nothing.
-use mathlib.Core.Path.{◌≡◌, refl, ◌∙◌, sym, subst}
+use mathlib.Core.Path.{◌≡◌, refl, ap, ◌∙◌, sym, subst}
 use mathlib.Core.Bool.{Bool, true, false, ◌||◌, true≢false}
 use mathlib.Core.List.{List}
 use Prim.Native.Nat.{ℕ, zero, suc, ◌+◌, ◌-◌, ◌≤◌, ◌<◌}
 use native.Mathlib.Omega.{arith}
-use borrow.Author.Tests.{lt-ltb, le-ltb, ltb-false}
-use lib.Dec.{ltb}
+use borrow.Author.Tests.{lt-ltb, le-ltb, ne_eqb, ltb-false, eqb-false, eqb-true}
+use lib.Dec.{eqb, ltb}
 use lib.ListN.{length}
 use Rattle.message.specs.Table.{too_short}
-use Rattle.packet.specs.Walk.{size_at, type_at, broken_at, step_at, walk_from}
-use Rattle.packet.specs.declared.walk.Walked.TheVariants.{Whole, Broken}
+use Rattle.std.proofs.Common.{Some, None}
+use Rattle.packet.specs.Walk.{size_at, type_at, broken_at, some_size, step_at, walk_from}
 
 broken_step : (s : List ℕ) (at : ℕ) → broken_at s at ≡ true → 0 ≡ step_at s at
 unfolding step_at
@@ -106,33 +106,67 @@ step_size s at size told some = go (broken_at s at) refl
     go true e = absurd (some (told ∙ simp e))
     go false e = (e, told ∙ simp e)
 
+-- what a size that was found, or none, says of a step
+pub found : (size step : ℕ) → Some size ≡ some_size step → (size ≡ step) × (size ≡ 0 → ⊥)
+found size step told = go (eqb step 0) refl
+  where
+    go : (b : Bool) → eqb step 0 ≡ b → (size ≡ step) × (size ≡ 0 → ⊥)
+    go true e =
+        let f : Some size ≡ None = simp e at told in
+        let no : ◌≡◌ {A = ℕ} 0 1 = cc in
+        absurd (omega arith)
+    go false e =
+        let f : Some size ≡ Some step = simp e at told in
+        let same : size ≡ step = cc in
+        (same, λ z. eqb-false step 0 e (sym same ∙ z))
+
+pub missing : (step : ℕ) → None ≡ some_size step → step ≡ 0
+missing step told = go (eqb step 0) refl
+  where
+    go : (b : Bool) → eqb step 0 ≡ b → step ≡ 0
+    go true e = eqb-true step 0 e
+    go false e =
+        let f : None ≡ Some step = simp e at told in
+        let no : ◌≡◌ {A = ℕ} 0 1 = cc in
+        absurd (omega arith)
+
+pub sized : {size step : ℕ} → 1 ≤ size → size ≡ step → Some size ≡ some_size step
+sized {size} {step} some told = ap Some told ∙ sym (simp (ne_eqb step 0 (λ z. absurd (omega (arith, z, told)))))
+
 -- the walk by one step
-module _ (s : List ℕ) (at size : ℕ) (told : size ≡ step_at s at) where
-  pub walk_stops : (left : ℕ) → 0 < left → size ≡ 0 → Broken at ≡ walk_from left at s
-  unfolding walk_from
-  walk_stops zero some none = absurd (omega arith)
-  walk_stops (suc left) some none = simp (step_fault s at size told none)
-
-  pub walk_goes : (left : ℕ) → 0 < left → (size ≡ 0 → ⊥) → walk_from left at s ≡ walk_from (left - 1) (at + size) s
-  unfolding walk_from
-  walk_goes zero some good = absurd (omega arith)
-  walk_goes (suc left) some good =
-      let h : (broken_at s at ≡ false) × (size ≡ size_at s at) = step_size s at size told good in
-      let e : suc left - 1 ≡ left = omega arith in
-      simp (h.0, e, h.1)
-
-  pub step_within : (size ≡ 0 → ⊥) → Lies s at size
-  step_within good =
+module _ (s : List ℕ) (at : ℕ) where
+  pub step_within : (size : ℕ) → size ≡ step_at s at → (size ≡ 0 → ⊥) → Lies s at size
+  step_within size told good =
       let h : (broken_at s at ≡ false) × (size ≡ size_at s at) = step_size s at size told good in
       subst (λ (n : ℕ). Lies s at n) (sym h.1) (lies s at h.0)
 
+  pub walk_stops : (left : ℕ) → 0 < left → None ≡ some_size (step_at s at) → Some at ≡ walk_from left at s
+  unfolding walk_from
+  walk_stops zero some none = absurd (omega arith)
+  walk_stops (suc left) some none = simp (step_fault s at (step_at s at) refl (missing _ none))
+
+  module _ {size : ℕ} (told : Some size ≡ some_size (step_at s at)) where
+    abbrev size_found : (size ≡ step_at s at) × (size ≡ 0 → ⊥)
+    size_found = found size (step_at s at) told
+
+    pub found_lies : Lies s at size
+    found_lies = step_within size size_found.0 size_found.1
+
+    pub walk_goes : (left next : ℕ) → left ≡ suc next → walk_from left at s ≡ walk_from next (at + size) s
+    unfolding walk_from
+    walk_goes zero next e = absurd (omega arith)
+    walk_goes (suc left) next e =
+        let h : (broken_at s at ≡ false) × (size ≡ size_at s at) = step_size s at size size_found.0 size_found.1 in
+        let n : left ≡ next = omega arith in
+        simp (h.0, h.1, n)
+
 -- the walk's end
-pub left_over : (s : List ℕ) (at left : ℕ) → left ≤ 0 → at < length s → Broken at ≡ walk_from left at s
+pub left_over : (s : List ℕ) (at left : ℕ) → left ≤ 0 → at < length s → Some at ≡ walk_from left at s
 unfolding walk_from
 left_over s at zero none h = simp (lt-ltb at (length s) h)
 left_over s at (suc left) none h = absurd (omega arith)
 
-pub all_there : (s : List ℕ) (at left : ℕ) → left ≤ 0 → length s ≤ at → Whole ≡ walk_from left at s
+pub all_there : (s : List ℕ) (at left : ℕ) → left ≤ 0 → length s ≤ at → None ≡ walk_from left at s
 unfolding walk_from
 all_there s at zero none h = simp (le-ltb at (length s) h)
 all_there s at (suc left) none h = absurd (omega arith)

@@ -47,13 +47,11 @@ pub fn walk(s: &[u8], messages: u8) -> Option<usize>
 {
     let sizes = message::table::sizes();
     let mut at = packet::HEADER;
-    let mut left = messages;
-    while 0 < left {
+    for _ in 0..messages {
         let Some(size) = step_by(s, &sizes, at) else {
             return Some(at);
         };
         at += size;
-        left -= 1;
     }
     if at < s.len() {
         return Some(at);

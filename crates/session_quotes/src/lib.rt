@@ -1,51 +1,76 @@
-// Parts: the best prices of many symbols and sides, over a session that lies where the host holds it. No order is copied but
-// the one that is looked at.
+// The best prices of many symbols and sides, over a session that lies where the host holds it. No order is copied but the
+// one that is looked at.
 #![tactic(auto)]
 
-ghost use Rattle.std.specs.Prelude.{◌≡◌, List, ℕ, length};
-ghost use Rattle.book.specs.Asking.{Joins, Room as Small};
-ghost use Rattle.book.specs.Lookup.{Apart};
+ghost use Rattle.std.specs.Prelude.{◌≡◌, List, ℕ, ◌≤◌, length, take};
+ghost use Rattle.refusals.specs.Refusals.{refusal_in};
+ghost use Rattle.book.specs.Asking.{best_for};
 ghost use Rattle.session.specs.Meaning.{held, tables_in, Ruled};
-ghost use Rattle.session.specs.Quoting.{quoted_of, quotes_after};
+ghost use Rattle.session.specs.Quoting.{numbers_of, quoted_of, quotes_after};
 
-use book::asking::{Level, join, no_level};
-use book::tables::Order;
-use book_room::room::Room;
-use questions::{Quest, reach, start};
+use book::asking::{Level, good_question, join, no_level, reply_with};
+use book::lookup::parts_of;
+use book_room::room::{LIVE, Room};
+use refusals::Refusal;
 use session::state::Session;
 
-pub mod questions;
+// A question's bytes, a symbol and a side, and the numbers of its reply.
+const QUESTION: usize = 15;
 
-// One order more for the question at hand.
-fn met(quest: Quest, order: Order, level: Level) -> Level
-    requires { Small level }
-    ensures { (symbol : List ℕ) → Apart symbol quest.parts → Joins symbol quest.side order level result }
+const REPLY: usize = 4;
+
+// The best of the live orders of a symbol and a side, from the last order to the first.
+fn best(
+    session: &Session,
+    live: usize,
+    symbol: [u8; 14],
+    side: u8,
+) -> Result<Level, Refusal>
+    requires live { live ≤ 256 }
+    requires orders { length session.now.orders ≡ 256 }
+    ensures { result ≡ best_for (take live session.now.orders) symbol side }
 {
-    let parts = quest.parts;
-    join(parts, quest.side, order, level)
+    let good = good_question(symbol, side);
+    let parts = parts_of(symbol);
+    let mut level = no_level();
+    for k in (0..live).rev() {
+        level = join(parts, side, session.orders[k], level);
+    }
+    reply_with(good, level)
+}
+
+fn numbers(best: Result<Level, Refusal>) -> [u64; REPLY]
+    ensures { result ≡ numbers_of best }
+{
+    match best {
+        Ok(level) => [0, level.price, level.shares, level.orders],
+        Err(refusal) => [refusal.number() as u64, 0, 0, 0],
+    }
 }
 
 // Four numbers answer each question: the refusal, 0 where there is none, the price, the sum of shares there and the number
-// of orders. The answer is 11 where the replies do not fit, and then nothing is written, else 0.
-pub fn quotes(session: &Session, room: &Room, asked: &[u8], replies: &mut [u64]) -> u64
+// of orders. Refused where the replies do not fit, and then nothing is written.
+pub fn quotes(
+    session: &Session,
+    room: &Room,
+    asked: &[u8],
+    replies: &mut [u64],
+) -> Result<(), Refusal>
     requires { (window : List ℕ) × Ruled (held session.now room.now window) }
-    ensures refusal { result ≡ quoted_of (length asked.now) (length replies.old) }
+    ensures refusal { refusal_in result ≡ quoted_of (length asked.now) (length replies.old) }
     ensures replies { replies.new ≡ quotes_after (tables_in session.now room.now) asked.now replies.old }
 {
-    let mut quest = start(room, asked.len(), replies.len());
-    let mut level = no_level();
-    loop {
-        quest = reach(asked, replies, quest, level);
-        if !quest.waits {
-            break;
-        }
-        level = no_level();
-        let mut left = quest.live;
-        while 0 < left {
-            left -= 1;
-            let order = session.orders[left];
-            level = met(quest, order, level);
-        }
+    let count = asked.len() / QUESTION;
+    if replies.len() < REPLY * count {
+        return Err(Refusal::NoRoom);
     }
-    quest.refusal
+    let live = room[LIVE] as usize;
+    for k in 0..count {
+        let at = QUESTION * k;
+        let symbol = wire::text_at::<14>(asked, at);
+        let answer = best(session, live, symbol, asked[at + 14]);
+        let place = REPLY * k;
+        replies[place..place + REPLY].copy_from_slice(&numbers(answer));
+    }
+    Ok(())
 }

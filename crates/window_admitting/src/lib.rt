@@ -55,7 +55,7 @@ pub fn admit(window: &mut Window, next: u64, end: u64, s: &[u8], through: bool) 
     ensures answer { result ≡ admitted_of through (state_of window.old next end) s.now }
     ensures kept { window.new ≡ window_for (held_by through (state_of window.old next end) s.now).waiting next }
 {
-    judge(s).map_err(|rejection| rejection.refusal)?;
+    judge(s)?;
     let head = header::fields(s);
     let first = head.seq as u64;
     let messages = head.messages;

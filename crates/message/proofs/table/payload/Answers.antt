@@ -1,10 +1,14 @@
 -- `message::payload` answers by what the table has, and behind it by what no type there is.
 -- Assumes nothing.
-use Rattle.message.proofs.Cases.{needed, unlisted-behind}
+use mathlib.Core.Path.{◌∙◌, sym}
+use Rattle.message.proofs.Cases.{listed-none, listed-some, needed, unlisted-behind}
 use Rattle.message.proofs.table.payload.Goals as goal
 
 pub returns-then-at-ge-TYPES : goal.returns-then-at-ge-TYPES
-returns-then-at-ge-TYPES c = unlisted-behind _ c.if-at-ge-TYPES.true
+returns-then-at-ge-TYPES c = listed-none _ (unlisted-behind _ c.if-at-ge-TYPES.true)
+
+pub returns-then-needed : goal.returns-then-needed
+returns-then-needed c = listed-none _ (sym c.if-needed.true ∙ needed _ _ c.requires c.if-at-ge-TYPES.false)
 
 pub returns : goal.returns
-returns c = needed _ _ c.requires c.if-at-ge-TYPES.false
+returns c = listed-some _ _ (needed _ _ c.requires c.if-at-ge-TYPES.false) c.if-needed.false
