@@ -10,6 +10,7 @@ use native.Mathlib.Omega.{arith}
 use borrow.Author.Tests.{eqb-true, leb-true}
 use lib.Dec.{eqb, leb}
 use lib.ListN.{get_or, take}
+use Rattle.std.specs.Prelude.{Option}
 use Rattle.wire.specs.Number.{part}
 use Rattle.fields.specs.Id.{number_of}
 use Rattle.message.specs.Layouts.{type_in}
@@ -25,7 +26,7 @@ use Rattle.book.specs.Rule.{Kept}
 use Rattle.book.specs.Tables.{Book, blank, rep, view}
 use Rattle.book.specs.declared.deciding.Effect.{Effect}
 use Rattle.book.specs.declared.deciding.Effect.TheVariants.{Put, Replace, Remove, Renew, Enter, Record, Unchanged, Fault, CountApart}
-use Rattle.book.specs.declared.lookup.Found.{Found}
+use Rattle.book.specs.declared.deciding.Reason.{Reason}
 use Rattle.book.specs.declared.tables.Inside.{Inside}
 use Rattle.book.specs.declared.tables.OpeningRule.{OpeningRule}
 use Rattle.book.proofs.Steps.{Decided, seen-is, unchanged_done}
@@ -56,7 +57,7 @@ module _ {b : Book} (s : List ℕ) (kept : Kept b) where
   order_seen_lem : (seen_of (view b) (message_in s)).order ≡ (named_in b s).order
   order_seen_lem = ap (λ (z : Seen). z.order) (sym whole_seen)
 
-  pub decided-add : {key live : ℕ} {order : Found} {e : Effect} → type_in s ≡ 21 → Whole s → key ≡ number_of (part s 7 14)
+  pub decided-add : {key live : ℕ} {order : Option ℕ} {e : Effect} → type_in s ≡ 21 → Whole s → key ≡ number_of (part s 7 14)
       → order ≡ key_at key (take b.live b.keys) → live ≡ b.live
       → ((seen : Seen) → seen.order ≡ order → seen.live ≡ live → e ≡ effect_of seen (fields_of 21 s))
       → Decided b s key (topic_of (message_in s)) e
@@ -92,7 +93,7 @@ module _ {b : Book} (s : List ℕ) (kept : Kept b) where
             (sym (ap (λ (x : Seen). x.price) whole_seen) ∙ sym price);
       }
 
-  pub decided_tell : {held : ℕ} {inside : Found} {rule : OpeningRule} {e : Effect} → Whole s
+  pub decided_tell : {held : ℕ} {inside : Option ℕ} {rule : OpeningRule} {e : Effect} → Whole s
       → inside ≡ symbol_at (topic_of (message_in s)) (take b.held b.fronts) (take b.held b.backs) → held ≡ b.held → rule ≡ b.unlisted.rule
       → ((seen : Seen) → seen.inside ≡ inside → seen.held ≡ held → seen.rule ≡ rule → e ≡ effect_of seen (message_in s))
       → Decided b s (number_of (message_in s).id) (topic_of (message_in s)) e
@@ -122,7 +123,7 @@ named-listed t named =
     λ b. by_cases (dec_lt t 25) (λ l. let e : t ≡ 24 = omega arith in rw e refl) (λ c. let e : t ≡ 25 = omega arith in rw e refl)
 
 -- an Add that is no fault puts its order
-no_fault : (e : Effect) → ((reason : ℕ) → e ≡ Fault reason → ⊥) → is_fault e ≡ false
+no_fault : (e : Effect) → ((reason : Reason) → e ≡ Fault reason → ⊥) → is_fault e ≡ false
 no_fault Put h = refl
 no_fault (Replace place shares price) h = refl
 no_fault (Remove place) h = refl
@@ -169,7 +170,7 @@ module _ {b : Book} {s : List ℕ} {key : ℕ} {topic : List ℕ} {e : Effect} (
   abbrev m : Message
   m = message_in s
 
-  pub put_left : type_in s ≡ 21 → ((reason : ℕ) → e ≡ Fault reason → ⊥) → e ≡ Put
+  pub put_left : type_in s ≡ 21 → ((reason : Reason) → e ≡ Fault reason → ⊥) → e ≡ Put
   put_left type h =
       let t : type_of m ≡ 21 = type_kept (type_in s) s ∙ type in
       d.effect
@@ -188,7 +189,7 @@ module _ {b : Book} {s : List ℕ} {key : ℕ} {topic : List ℕ} {e : Effect} (
 
   -- a message that names an order replaces, removes or faults
   pub change_left : (number : ℕ) → names (type_in s) ≡ true
-      → ((place shares price : ℕ) → e ≡ Replace place shares price → ⊥) → ((place : ℕ) → e ≡ Remove place → ⊥) → ((reason : ℕ) → e ≡ Fault reason → ⊥)
+      → ((place shares price : ℕ) → e ≡ Replace place shares price → ⊥) → ((place : ℕ) → e ≡ Remove place → ⊥) → ((reason : Reason) → e ≡ Fault reason → ⊥)
       → b ≡ rep (apply_of (view b) number s)
   change_left number named replaces removes faults = go e refl
     where
@@ -208,7 +209,7 @@ module _ {b : Book} {s : List ℕ} {key : ℕ} {topic : List ℕ} {e : Effect} (
 
   -- any other message touches no order
   pub tell_left : (number : ℕ) → (leb 21 (type_in s) && leb (type_in s) 25) ≡ false
-      → ((place : ℕ) → e ≡ Renew place → ⊥) → (e ≡ Enter → ⊥) → ((code : ℕ) → e ≡ Record code → ⊥) → ((reason : ℕ) → e ≡ Fault reason → ⊥) → (e ≡ CountApart → ⊥)
+      → ((place : ℕ) → e ≡ Renew place → ⊥) → (e ≡ Enter → ⊥) → ((code : ℕ) → e ≡ Record code → ⊥) → ((reason : Reason) → e ≡ Fault reason → ⊥) → (e ≡ CountApart → ⊥)
       → b ≡ rep (apply_of (view b) number s)
   tell_left number other renews enters records faults apart = go e refl
     where

@@ -6,11 +6,14 @@ use mathlib.Core.List.{List}
 use Prim.Native.Nat.{ℕ, ◌+◌, ◌-◌, ◌<◌}
 use native.Mathlib.Omega.{arith}
 use lib.ListN.{get_or, set}
+use Rattle.std.specs.Prelude.{Option, Some, None}
 use Rattle.message.specs.Row.{fields_of}
 use Rattle.book.specs.Applying.{counted_apart, faulted, inside_of, order_of}
 use Rattle.book.specs.Lookup.{back_of, front_of}
+use Rattle.book.specs.Reasons.{reason_number}
 use Rattle.book.specs.Tables.{Book, blank, holding_insides, holding_marks, holding_orders, holding_unlisted, no_order}
 use Rattle.book.specs.declared.deciding.Effect.{Effect}
+use Rattle.book.specs.declared.deciding.Reason.{Reason}
 use Rattle.book.specs.declared.deciding.Effect.TheVariants as effect
 use Rattle.book.specs.declared.tables.Inside.{Inside}
 use Rattle.book.proofs.Carrying.{restored_is}
@@ -18,7 +21,7 @@ use Rattle.book.proofs.Steps.{Decided, apart_done, enter_done, fault_done, put_d
 use Rattle.book_room.proofs.Decides.{remove_at, replace_at}
 use Rattle.book_room.specs.Arms.{Added, Changed, Told, after}
 use Rattle.book_room.specs.Room.{Counts, Gone, Houses, Lies, room_of}
-use Rattle.book_room.specs.declared.adding.Put.TheVariants as put
+use Rattle.book_room.specs.declared.adding.Placed.{Placed}
 use Rattle.book_room.specs.declared.changing.Act.TheVariants as act
 
 module _ {room : List ℕ} {next end : ℕ} {b : Book} {number : ℕ} {s : List ℕ} (h : Houses room next end b number s) where
@@ -28,24 +31,21 @@ module _ {room : List ℕ} {next end : ℕ} {b : Book} {number : ℕ} {s : List 
   pub counts : Counts room next end b number
   counts = record { lies = lies; counted = h.ready.counted; apart = h.ready.apart; within = h.ready.within }
 
-never : {A : Type 0} → ◌≡◌ {A = ℕ} 0 1 → A
-never e = absurd (omega arith)
-
 module _ (next end number : ℕ) {b : Book} {s : List ℕ} {key : ℕ} {topic : List ℕ} {e : Effect} (d : Decided b s key topic e) {now : List ℕ} where
   -- a fault, in any arm
-  module _ {reason : ℕ} (is : e ≡ effect.Fault reason) (marked : now ≡ room_of next end (holding_marks b b.code (faulted b.faults number reason))) where
+  module _ {reason : Reason} (is : e ≡ effect.Fault reason) (marked : now ≡ room_of next end (holding_marks b b.code (faulted b.faults number (reason_number reason)))) where
     fault_room : now ≡ room_of next end (after b number s)
     fault_room = marked ∙ ap (room_of next end) (fault_done d number is refl)
 
     fault_orders : (after b number s).orders ≡ b.orders
     fault_orders = sym (ap (λ (x : Book). x.orders) (fault_done d number is refl))
 
-    pub added_fault : Added now next end b number s put.Nothing
-    added_fault = record { is = fault_room; orders = fault_orders; fits = λ place key e. never (cc) }
+    pub added_fault : Added now next end b number s None
+    added_fault = record { is = fault_room; orders = fault_orders; fits = λ placed e. cc }
 
     pub changed_fault : Changed now next end b number s act.Nothing
     changed_fault =
-        record { is = fault_room; orders = fault_orders; replaces = λ place shares price e. never (cc); removes = λ place last e. never (cc) }
+        record { is = fault_room; orders = fault_orders; replaces = λ place shares price e. cc; removes = λ place last e. cc }
 
     pub told_fault : Told now next end b number s
     told_fault = record { is = fault_room; orders = fault_orders }
@@ -57,23 +57,23 @@ module _ (next end number : ℕ) {b : Book} {s : List ℕ} {key : ℕ} {topic : 
         record {
           is = still ∙ ap (room_of next end) same;
           orders = sym (ap (λ (x : Book). x.orders) same);
-          replaces = λ place shares price e. never (cc);
-          removes = λ place last e. never (cc);
+          replaces = λ place shares price e. cc;
+          removes = λ place last e. cc;
         }
 
     pub told_none : Told now next end b number s
     told_none = record { is = still ∙ ap (room_of next end) same; orders = sym (ap (λ (x : Book). x.orders) same) }
 
   pub added_put : {live : ℕ} → e ≡ effect.Put → live ≡ b.live → live < 256
-      → now ≡ room_of next end (holding_orders b b.orders (set b.keys live key) (live + 1)) → Added now next end b number s (put.At live key)
+      → now ≡ room_of next end (holding_orders b b.orders (set b.keys live key) (live + 1)) → Added now next end b number s (Some (record { place = live; key = key }))
   added_put {live} is at few written =
       let done = put_done d is number refl in
       record {
         is = written ∙ ap (λ (n : ℕ). room_of next end (holding_orders b b.orders (set b.keys n key) (n + 1))) at ∙ ap (room_of next end) done;
         orders = sym (ap (λ (x : Book). x.orders) done) ∙ ap (λ (n : ℕ). set b.orders n (order_of (fields_of 21 s))) (sym at);
-        fits = λ place k same.
-            let p : place ≡ live = cc in
-            let q : k ≡ key = cc in
+        fits = λ placed same.
+            let p : placed.place ≡ live = cc in
+            let q : placed.key ≡ key = cc in
             (rw p few, rw q (put_naming d is));
       }
 
@@ -86,7 +86,7 @@ module _ (next end number : ℕ) {b : Book} {s : List ℕ} {key : ℕ} {topic : 
         is = still ∙ ap (room_of next end) done;
         orders = sym (ap (λ (x : Book). x.orders) done) ∙ restored_is b.orders place shares price (omega (arith, d.kept.orders));
         replaces = λ p q r same. let e : p ≡ place = cc in e ∙ replace_at d is;
-        removes = λ p last same. never (cc);
+        removes = λ p last same. cc;
       }
 
   pub changed_remove : {place last : ℕ} → e ≡ effect.Remove place → Gone now next end b place last → Changed now next end b number s (act.Remove place last)
@@ -98,7 +98,7 @@ module _ (next end number : ℕ) {b : Book} {s : List ℕ} {key : ℕ} {topic : 
       record {
         is = gone.is ∙ ap (room_of next end) done;
         orders = sym (ap (λ (x : Book). x.orders) done) ∙ ap (λ (n : ℕ). set (set b.orders place (get_or b.orders n blank)) n no_order) (sym at);
-        replaces = λ p q r same. never (cc);
+        replaces = λ p q r same. cc;
         removes = λ p l same. let e : p ≡ place = cc in let f : l ≡ last = cc in (e ∙ remove_at d is, rw f less);
       }
 

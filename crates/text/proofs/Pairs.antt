@@ -1,17 +1,17 @@
 -- Pairs of digits, one after the other.
 -- Assumes nothing.
 use mathlib.Core.Bool.{Bool, true, false, cond}
-use mathlib.Core.Path.{◌≡◌, refl, ap, ◌∙◌, sym}
+use mathlib.Core.Path.{◌≡◌, refl, ◌∙◌, sym}
+use Rattle.std.proofs.Common.{None, Some}
 use mathlib.Core.List.{List, [], ◌∷◌, ◌++◌, append_assoc, append-nil}
 use Prim.Native.Nat.{ℕ, zero, suc, ◌+◌, ◌*◌, ◌≤◌, ◌<◌}
 use native.Mathlib.Numerals.{add-one}
 use native.Mathlib.Omega.{arith}
-use borrow.Author.Tests.{lt-ltb, le-ltb, ne_eqb, eq-eqb}
+use borrow.Author.Tests.{lt-ltb, le-ltb, ne_eqb}
 use lib.Dec.{eqb, ltb}
 use lib.ListN.{length, get_or, set, take, drop, drop_of_length-le}
 use lib.Seq.{drop-cons, take-suc-set}
-use Rattle.text.specs.Hex.{digit_of, pair_of, is_pairs, bytes_of, is_dash, is_bytes, no_bytes, Fills, Reads}
-use Rattle.text.specs.declared.hex.Bytes.{Bytes}
+use Rattle.text.specs.Hex.{pair_of, is_pairs, bytes_of, is_dash, is_bytes, Fills, Reads}
 
 bytes_two : (a b : ℕ) (rest : List ℕ) → bytes_of (a ∷ b ∷ rest) ≡ pair_of a b ∷ bytes_of rest
 unfolding bytes_of
@@ -59,19 +59,6 @@ odd_none (a ∷ []) k h = refl
 odd_none (a ∷ b ∷ rest) zero h = absurd (omega arith)
 odd_none (a ∷ b ∷ rest) (suc k) h = either (ltb (pair_of a b) 256) (is_pairs rest) (odd_none rest k (omega arith))
 
-module _ (a b x y : ℕ) (is_x : x ≡ digit_of a) (is_y : y ≡ digit_of b) where
-  pub first_none : x ≡ 16 → 256 ≡ pair_of a b
-  unfolding pair_of
-  first_none none = simp (eq-eqb _ _ (sym is_x ∙ none))
-
-  pub second_none : (x ≡ 16 → ⊥) → y ≡ 16 → 256 ≡ pair_of a b
-  unfolding pair_of
-  second_none other none = simp (ne_eqb _ _ (rw is_x at other), eq-eqb _ _ (sym is_y ∙ none))
-
-  pub both : (x ≡ 16 → ⊥) → (y ≡ 16 → ⊥) → x * 16 + y ≡ pair_of a b
-  unfolding pair_of
-  both other second = simp (ne_eqb _ _ (rw is_x at other), ne_eqb _ _ (rw is_y at second)) (rw (is_x, is_y))
-
 pub dash_one : (s : List ℕ) → length s ≡ 1 → eqb (get_or s 0 0) 45 ≡ is_dash s
 unfolding is_dash
 dash_one [] h = absurd (omega arith)
@@ -110,23 +97,16 @@ dash_bytes (a ∷ b ∷ rest) e = absurd (let z : ◌≡◌ {A = ℕ} 0 1 = cc i
 
 -- the answers: `-`, no bytes, too little room, and digits that filled it or did not
 module _ (s : List ℕ) (room : ℕ) (new : List ℕ) where
-  pub read_dash : is_dash s ≡ true → Reads s room (record { good = true; count = 0 }) new
+  pub read_dash : is_dash s ≡ true → Reads s room (Some 0) new
   unfolding is_bytes
-  read_dash dash = record { within = omega arith; good = λ fits. simp dash; bytes = λ e. dash_bytes s dash }
+  read_dash dash = record { within = omega arith; good = λ fits. simp dash; bytes = dash_bytes s dash }
 
-  module _ (r : Bytes) (is-r : r ≡ no_bytes) where
-    is_bad : r.good ≡ true → ⊥
-    is_bad e = let z : ◌≡◌ {A = ℕ} 0 1 = cc in omega arith
+  pub read_none : false ≡ is_bytes s → Reads s room None new
+  read_none bad = record { within = tt; good = λ fits. bad; bytes = tt }
 
-    none_within : r.count ≤ length new
-    none_within = rw is-r (omega arith)
+  pub read_short : room * 2 < length s → Reads s room None new
+  read_short short = record { within = tt; good = λ fits. absurd (omega arith); bytes = tt }
 
-    pub read_none : false ≡ is_bytes s → Reads s room r new
-    read_none bad = record { within = none_within; good = λ fits. ap (λ (x : Bytes). x.good) is-r ∙ bad; bytes = λ e. absurd (is_bad e) }
-
-    pub read_short : room * 2 < length s → Reads s room r new
-    read_short short = record { within = none_within; good = λ fits. absurd (omega arith); bytes = λ e. absurd (is_bad e) }
-
-  pub read_filled : (count : ℕ) (filled : Bool) → count ≤ length new → Fills s count filled new → filled ≡ true → is_pairs s ≡ is_bytes s → Reads s room (record { good = true; count = count }) new
+  pub read_filled : (count : ℕ) (filled : Bool) → count ≤ length new → Fills s count filled new → filled ≡ true → is_pairs s ≡ is_bytes s → Reads s room (Some count) new
   read_filled count filled within fills whole by =
-      record { within = within; good = λ fits. sym whole ∙ fills.is ∙ by; bytes = λ e. fills.bytes whole }
+      record { within = within; good = λ fits. sym whole ∙ fills.is ∙ by; bytes = fills.bytes whole }

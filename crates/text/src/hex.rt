@@ -7,6 +7,7 @@ ghost use Rattle.text.specs.Output.{Put};
 use crate::output;
 
 // A digit's value, in either case.
+#[tactic(auto, unfolding(crate::specs::Hex::digit_of))]
 fn digit_of(c: u8) -> Option<u8>
     ensures { Digit c result }
 {
@@ -19,6 +20,7 @@ fn digit_of(c: u8) -> Option<u8>
 }
 
 // The byte of two digits.
+#[tactic(auto, unfolding(crate::specs::Hex::pair_of))]
 fn pair(high: u8, low: u8) -> Option<u8>
     ensures { Pair high low result }
 {
@@ -29,13 +31,11 @@ fn fill(word: &[u8], out: &mut [u8], count: usize) -> bool
     requires { (count * 2 ≡ length word.now) × (count ≤ length out.old) }
     ensures { Fills word.now count result out.new }
 {
-    let mut k = 0;
-    while k < count {
+    for k in 0..count {
         let Some(byte) = pair(word[k * 2], word[k * 2 + 1]) else {
             return false;
         };
         out[k] = byte;
-        k += 1;
     }
     true
 }
@@ -89,11 +89,8 @@ fn spell(out: &mut [u8], at: usize, bytes: &[u8])
     requires { at + length bytes.now * 2 ≤ length out.old }
     ensures { out.new ≡ splice out.old at (spelt_of bytes.now) }
 {
-    let mut k = 0;
-    while k < bytes.len() {
-        let digits = digits_of(bytes[k]);
-        wire::put_text(out, at + k * 2, &digits);
-        k += 1;
+    for (k, byte) in bytes.iter().enumerate() {
+        wire::put_text(out, at + k * 2, &digits_of(*byte));
     }
 }
 

@@ -27,6 +27,7 @@ pub fn parse(word: &[u8], limit: u64) -> Option<u64>
 }
 
 // A digit's value.
+#[tactic(auto, unfolding(crate::specs::Numbers::digit_of))]
 fn digit_of(c: u8) -> Option<u64>
     ensures { Digit c result }
 {

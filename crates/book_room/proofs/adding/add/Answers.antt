@@ -5,6 +5,7 @@ use mathlib.Core.List.{List}
 use Prim.Native.Nat.{ℕ}
 use native.Mathlib.Omega.{arith}
 use lib.ListN.{get_or, take}
+use Rattle.std.specs.Prelude.{Option}
 use Rattle.wire.specs.Number.{part}
 use Rattle.fields.specs.Id.{number_of}
 use Rattle.book.specs.Applying.{Seen, effect_of, message_in, topic_of}
@@ -12,7 +13,7 @@ use Rattle.book.specs.Lookup.{key_at}
 use Rattle.book.specs.Tables.{Book}
 use Rattle.book.specs.declared.deciding.Effect.{Effect}
 use Rattle.book.specs.declared.deciding.Effect.TheVariants.{Fault}
-use Rattle.book.specs.declared.lookup.Found.{Found}
+use Rattle.book.specs.declared.deciding.Reason.{Reason}
 use Rattle.message.specs.Layouts.{type_in}
 use Rattle.message.specs.Row.{fields_of}
 use Rattle.book.proofs.Steps.{Decided, put_few}
@@ -25,13 +26,13 @@ use Rattle.book_room.proofs.adding.add.Goals as goal
 
 -- what is decided, by the look-up and the count
 module _ {room : List ℕ} {next end : ℕ} {b : Book} {number : ℕ} {s : List ℕ} (h : Houses room next end b number s)
-    {key : ℕ} {order : Found} {e : Effect} (type : type_in s ≡ 21) (value : key ≡ number_of (part s 7 14))
+    {key : ℕ} {order : Option ℕ} {e : Effect} (type : type_in s ≡ 21) (value : key ≡ number_of (part s 7 14))
     (looked : (next end : ℕ) (b : Book) → Lies room next end b → order ≡ key_at key (take b.live b.keys))
     (is : (seen : Seen) → seen.order ≡ order → seen.live ≡ get_or room 2 0 → e ≡ effect_of seen (fields_of 21 s)) where
   decided : Decided b s key (topic_of (message_in s)) e
   decided = decided-add s h.ready.kept type h.ready.whole value (looked next end b (lies h)) (live_at (filled (lies h))) is
 
-  free : ((reason : ℕ) → e ≡ Fault reason → ⊥) → Free room next end b (get_or room 2 0)
+  free : ((reason : Reason) → e ≡ Fault reason → ⊥) → Free room next end b (get_or room 2 0)
   free left =
       let at = live_at (filled (lies h)) in
       record { filled = filled (lies h); at = at; few = omega (arith, put_few decided (put_left decided type left)) }

@@ -1,7 +1,7 @@
 -- The place that the index of symbols tells.
 -- Assumes nothing.
 use native.Mathlib.Omega.{arith}
-use Rattle.book_room.proofs.Finds.{held_same, held_there, no_symbol, not-held, pair_in}
+use Rattle.book_room.proofs.Finds.{held_same, is_held, no_symbol, pair_in}
 use Rattle.book_room.proofs.Lying.{filled, long, paired, symbols_apart}
 use Rattle.book_room.proofs.finding.held_at.Goals as goal
 
@@ -10,17 +10,11 @@ returns-then-first-eq0 c next end b lies =
     no_symbol c.args.symbol b.fronts b.backs b.held
     c.front-first.ensures c.back-last.ensures c.if-first-eq0.true
 
-pub returns-then-at-eq0 : goal.returns-then-at-eq0
-returns-then-at-eq0 c next end b lies =
-    not-held c.args.symbol b.fronts b.backs b.held
-    c.front-first.ensures c.back-last.ensures
-    (held_same lies) (symbols_apart lies.kept) c.if-first-eq0.false (pair_in lies c.pair-at.ensures) c.if-at-eq0.true
-
 pub returns : goal.returns
 returns c next end b lies =
-    held_there c.args.symbol b.fronts b.backs b.held
+    is_held c.args.symbol b.fronts b.backs b.held
     c.front-first.ensures c.back-last.ensures
-    (held_same lies) (symbols_apart lies.kept) c.if-first-eq0.false (pair_in lies c.pair-at.ensures) c.if-at-eq0.false
+    (held_same lies) (symbols_apart lies.kept) c.if-first-eq0.false (pair_in lies c.pair.ensures)
 
 pub bounds-room-3 : goal.bounds-room-3
 bounds-room-3 c = omega (arith, long (filled c.requires.3))
@@ -34,5 +28,5 @@ slice_bounds-pair-end-2 c = omega (arith, long (filled c.requires.3))
 pub slice_bounds-pair-end-3 : goal.slice_bounds-pair-end-3
 slice_bounds-pair-end-3 c = omega (arith, long (filled c.requires.3))
 
-pub pair-at-requires : goal.pair-at-requires
-pair-at-requires c = paired (filled c.requires.3)
+pub pair-requires : goal.pair-requires
+pair-requires c = paired (filled c.requires.3)

@@ -6,13 +6,13 @@ use mathlib.Core.List.{List}
 use Prim.Native.Nat.{ℕ, ◌<◌}
 use native.Mathlib.Omega.{arith}
 use lib.ListN.{get_or, set, take}
+use Rattle.std.specs.Prelude.{Option}
 use Rattle.fields.specs.Id.{number_of}
 use Rattle.book.specs.Applying.{Seen, effect_of, message_in, topic_of}
 use Rattle.book.specs.Lookup.{symbol_at}
 use Rattle.book.specs.Tables.{Book, holding_insides}
 use Rattle.book.specs.declared.deciding.Effect.{Effect}
 use Rattle.book.specs.declared.deciding.Effect.TheVariants.{Enter}
-use Rattle.book.specs.declared.lookup.Found.{Found}
 use Rattle.book.specs.declared.tables.OpeningRule.{OpeningRule}
 use Rattle.book.proofs.Steps.{Decided, enter_few, enter_room, renew_room, renew_within}
 use Rattle.book_room.specs.Room.{Houses, Lies, rule_by}
@@ -24,7 +24,7 @@ use Rattle.book_room.proofs.telling.tell.Goals as goal
 
 -- what is decided, by the look-up, the count and the rule
 module _ {room : List ℕ} {next end : ℕ} {b : Book} {number : ℕ} {s : List ℕ} (h : Houses room next end b number s)
-    {inside : Found} {rule : OpeningRule} {e : Effect}
+    {inside : Option ℕ} {rule : OpeningRule} {e : Effect}
     (looked : (next end : ℕ) (b : Book) → Lies room next end b → inside ≡ symbol_at (topic_of (message_in s)) (take b.held b.fronts) (take b.held b.backs))
     (chosen : rule ≡ rule_by (get_or room 8 0))
     (is : (seen : Seen) → seen.inside ≡ inside → seen.held ≡ get_or room 3 0 → seen.rule ≡ rule → e ≡ effect_of seen (message_in s)) where

@@ -2,13 +2,10 @@
 -- Assumes nothing.
 use mathlib.Core.Path.{◌≡◌}
 use mathlib.Core.List.{◌++◌}
-use Prim.Native.Nat.{◌≤◌, ◌-◌, ◌*◌}
+use Prim.Native.Nat.{◌*◌}
 use lib.ListN.{length, take, drop}
 use Rattle.text.specs.Hex.{is_pairs, bytes_of}
 use Rattle.text.proofs.hex.fill.Given as goal
 
 abbrev pub invariant-loop-k : goal.invariant-loop-k
-invariant-loop-k l = (l.k ≤ l.count) × (length l.out ≡ length l.initial.out) × (is_pairs (drop (l.k * 2) l.word) ≡ is_pairs l.word) × (take l.k l.out ++ bytes_of (drop (l.k * 2) l.word) ≡ bytes_of l.word)
-
-abbrev pub decreases-loop-k : goal.decreases-loop-k
-decreases-loop-k l = l.count - l.k
+invariant-loop-k l = (length l.out ≡ length l.initial.out) × (is_pairs (drop (l.k * 2) l.word) ≡ is_pairs l.word) × (take l.k l.out ++ bytes_of (drop (l.k * 2) l.word) ≡ bytes_of l.word)

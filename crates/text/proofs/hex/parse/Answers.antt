@@ -16,21 +16,21 @@ returns-then-count-eq0 c =
     let d = c.before.before.before in
     let s = d.args.word.now in
     let plain = sym d.is_dash.ensures ∙ c.if-is_dash.false in
-    read_none _ _ _ _ c.none.ensures (too_few s plain (omega arith))
+    read_none _ _ _ (too_few s plain (omega arith))
 
 pub returns-then-count-word : goal.returns-then-count-word
 returns-then-count-word c =
     let d = c.before.before.before.before in
     let s = d.args.word.now in
     let plain = sym d.is_dash.ensures ∙ c.if-is_dash.false in
-    read_none _ _ _ _ c.none-then-count-word.ensures (sym (odd_none s (length s / 2) (omega arith)) ∙ by_pairs s plain (omega arith))
+    read_none _ _ _ (sym (odd_none s (length s / 2) (omega arith)) ∙ by_pairs s plain (omega arith))
 
 pub returns-then-out-count : goal.returns-then-out-count
 returns-then-out-count c =
     let d = c.before.before.before.before.before in
     let s = d.args.word.now in
     let plain = sym d.is_dash.ensures ∙ c.if-is_dash.false in
-    read_short _ _ _ _ c.none-then-out-count.ensures (omega arith)
+    read_short _ _ _ (omega arith)
 
 pub returns-then-fill : goal.returns-then-fill
 returns-then-fill c =
@@ -44,4 +44,4 @@ returns c =
     let d = c.before.before.before.before.before.before.before.before.before.before in
     let s = d.args.word.now in
     let plain = sym d.is_dash.ensures ∙ c.if-is_dash.false in
-    read_none _ _ _ _ c.none-2.ensures (sym c.if-fill.false ∙ c.fill.ensures.is ∙ by_pairs s plain (omega arith))
+    read_none _ _ _ (sym c.if-fill.false ∙ c.fill.ensures.is ∙ by_pairs s plain (omega arith))

@@ -8,16 +8,14 @@ use Rattle.text.proofs.hex.spell.Goals as goal
 pub loop-k-init : goal.loop-k-init
 loop-k-init c =
     let a = c.args in
-    (search rules, search rules, spelt_none a.out.now a.at a.bytes.now c.requires)
+    (search rules, spelt_none a.out.now a.at a.bytes.now c.requires)
 
 pub loop-k-preserved : goal.loop-k-preserved
 loop-k-preserved c =
-    let l = c.before.before.before.before.before.before.before.before in
-    let a = l.args in
-    (search rules, search rules, spelt_step a.out.now a.at a.bytes.now l.requires l.loop-k.k c.loop-k-test.true _ _ _ l.loop-k.invariant.2 c.digits_of-digits.ensures c.put_text.ensures)
+    let a = c.args in
+    (search rules, spelt_step a.out.now a.at a.bytes.now c.requires c.loop-k.k c.loop-k-test.true _ _ _ c.loop-k.invariant.1 c.digits_of.ensures c.put_text.ensures)
 
 pub returns : goal.returns
 returns c =
-    let l = c.before in
-    let a = l.args in
-    l.loop-k.invariant.2 ∙ spelt_all a.out.now a.at a.bytes.now l.requires l.loop-k.k c.loop-k-test.false
+    let a = c.args in
+    c.loop-k.invariant.1 ∙ spelt_all a.out.now a.at a.bytes.now c.requires c.loop-k.k c.loop-k-test.false
