@@ -1,11 +1,11 @@
 -- What a listed type's number says.
 -- Assumes nothing.
-use Rattle.std.proofs.Common.{◌≡◌, ℕ, ◌<◌, ◌≤◌, refl, lit≤, subst, sym, ◌∙◌, eqb, eq-eqb, ne_eqb, true, false, Bool, arith}
-use Rattle.message.specs.Table.{payload_of}
+use Rattle.std.proofs.Common.{◌≡◌, ℕ, ◌<◌, ◌≤◌, refl, lit≤, subst, sym, ap, not, ◌+◌, ◌∙◌, eqb, eq-eqb, ne_eqb, true, false, Bool, arith}
+use Rattle.message.specs.Table.{payload_of, too_short}
 use Rattle.message.specs.Types.{type_number}
 use Rattle.message.specs.declared.types.Kind.{Kind}
 use Rattle.message.specs.declared.types.Kind.TheVariants.{Security, SpinStart, SpinEnd, TradingSession, Add, Update, Delete, Execution, Priced, Top, Trade, Imbalance}
-use Rattle.message.proofs.Cases.{Unopened}
+use Rattle.message.proofs.Cases.{room, Unopened}
 
 true-false : ◌≡◌ {A = Bool} true false → ⊥
 true-false e = let one : ◌≡◌ {A = ℕ} 0 1 = cc in omega arith
@@ -25,6 +25,24 @@ small_number Top = lit≤ tt
 small_number Trade = lit≤ tt
 small_number Imbalance = lit≤ tt
 
+-- no listed type has number 0
+pub some_number : (kind : Kind) → type_number kind ≡ 0 → ⊥
+some_number kind e = true-false (sym (eq-eqb _ _ e) ∙ other kind)
+  where
+    other : (kind : Kind) → eqb (type_number kind) 0 ≡ false
+    other Security = refl
+    other SpinStart = refl
+    other SpinEnd = refl
+    other TradingSession = refl
+    other Add = refl
+    other Update = refl
+    other Delete = refl
+    other Execution = refl
+    other Priced = refl
+    other Top = refl
+    other Trade = refl
+    other Imbalance = refl
+
 -- a number that is none of the twelve is not listed
 pub not_listed : (n : ℕ) → Unopened n → (n ≡ 28 → ⊥) → payload_of n ≡ 255
 unfolding payload_of
@@ -40,3 +58,26 @@ unfolding payload_of
 not_opened n none =
     let other = λ (k : ℕ) (listed : eqb (payload_of k) 255 ≡ false). differs n k none listed in
     (((((((((((tt, other 9 refl), other 11 refl), other 12 refl), other 20 refl), other 21 refl), other 22 refl), other 23 refl), other 24 refl), other 25 refl), other 26 refl), other 27 refl)
+
+-- the number of a type that is known
+pub number_is : {k : Kind} {n : ℕ} (kind : Kind) → type_number k ≡ n → k ≡ kind → n ≡ type_number kind
+number_is kind told e = sym told ∙ ap type_number e
+
+-- a message of a listed type that is not too short has room for the type's fields
+listed : (kind : Kind) → not (eqb (payload_of (type_number kind)) 255) ≡ true
+unfolding payload_of
+listed Security = refl
+listed SpinStart = refl
+listed SpinEnd = refl
+listed TradingSession = refl
+listed Add = refl
+listed Update = refl
+listed Delete = refl
+listed Execution = refl
+listed Priced = refl
+listed Top = refl
+listed Trade = refl
+listed Imbalance = refl
+
+pub room_for : {k : Kind} {t n : ℕ} (kind : Kind) → type_number k ≡ t → k ≡ kind → too_short t n ≡ false → 3 + payload_of (type_number kind) ≤ n
+room_for {n = n} kind told e enough = room (type_number kind) n (number_is kind told e) (listed kind) enough

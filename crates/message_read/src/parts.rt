@@ -215,18 +215,21 @@ pub fn fields(s: &[u8], kind: u8) -> Message
     requires { too_short kind (length s.now) ≡ false }
     ensures { result ≡ fields_of kind s.now }
 {
-    match Kind::try_from(kind) {
-        Ok(Kind::Security) => of_security(message_layouts::security(s)),
-        Ok(Kind::SpinStart) => of_spin_start(message_layouts::spin_start(s)),
-        Ok(Kind::SpinEnd) => of_spin_end(message_layouts::spin_end(s)),
-        Ok(Kind::TradingSession) => of_trading_session(message_layouts::trading_session(s)),
-        Ok(Kind::Add) => of_add(message_layouts::add(s)),
-        Ok(Kind::Update) => of_update(message_layouts::update(s)),
-        Ok(Kind::Delete) => of_delete(message_layouts::named(s)),
-        Ok(Kind::Execution) => of_execution(message_layouts::execution(s)),
-        Ok(Kind::Priced) => of_priced(message_layouts::priced(s)),
-        Ok(Kind::Top) => of_top(message_layouts::top(s)),
-        Ok(Kind::Trade) => of_trade(message_layouts::trade(s)),
-        Ok(Kind::Imbalance) | Err(_) => plain(kind),
+    let Ok(listed) = Kind::try_from(kind) else {
+        return plain(kind);
+    };
+    match listed {
+        Kind::Security => of_security(message_layouts::security(s)),
+        Kind::SpinStart => of_spin_start(message_layouts::spin_start(s)),
+        Kind::SpinEnd => of_spin_end(message_layouts::spin_end(s)),
+        Kind::TradingSession => of_trading_session(message_layouts::trading_session(s)),
+        Kind::Add => of_add(message_layouts::add(s)),
+        Kind::Update => of_update(message_layouts::update(s)),
+        Kind::Delete => of_delete(message_layouts::named(s)),
+        Kind::Execution => of_execution(message_layouts::execution(s)),
+        Kind::Priced => of_priced(message_layouts::priced(s)),
+        Kind::Top => of_top(message_layouts::top(s)),
+        Kind::Trade => of_trade(message_layouts::trade(s)),
+        Kind::Imbalance => plain(kind),
     }
 }

@@ -3,9 +3,11 @@
 
 ghost use Rattle.std.specs.Prelude.{false, true, ◌≡◌, [], ◌∷◌, ◌+◌, ◌-◌, ◌≤◌, Ok, length};
 ghost use Rattle.wire.specs.Number.{splice};
+ghost use Rattle.refusals.specs.Refusals.{refusal_or_none};
 ghost use Rattle.window_taking.specs.Keeping.{state_of, window_for, held_by, Known, Neat};
 ghost use Rattle.window_taking.specs.Turns.{frame_at, from_by, packet_at, turn_of, at_start, closing, place_after, done_in, Lies, Closes, Follows};
 
+use refusals::Refusal;
 use window::places::{NUMBERS, Window};
 use window_admitting::admit;
 use window_taking::admitting::Admitted;
@@ -167,6 +169,13 @@ pub fn put_answer(answers: &mut [u64], place: usize, first: u64, refusal: u64, n
     answers[place + 3] = end;
 }
 
+// The number of a refusal, 0 where there is none.
+fn number(refusal: Option<Refusal>) -> u8
+    ensures { result ≡ refusal_or_none refusal }
+{
+    refusal.map_or(0, |refusal| refusal.number())
+}
+
 // The answer to the packet at hand: how many were applied, the refusal, next and end.
 pub fn close(answers: &mut [u64], turn: Turn, next: u64)
     requires { Closes turn next (length answers.old) }
@@ -177,6 +186,6 @@ pub fn close(answers: &mut [u64], turn: Turn, next: u64)
     }
     let place = turn.place;
     let applied = next - turn.before;
-    let refusal = turn.refusal.map_or(0, |refusal| refusal.number()) as u64;
+    let refusal = number(turn.refusal) as u64;
     put_answer(answers, place, applied, refusal, next, turn.end);
 }

@@ -9,18 +9,22 @@ use Prim.Native.Nat.{ℕ, ◌+◌, ◌-◌, ◌*◌, ◌≤◌, ◌<◌}
 use native.Mathlib.Decide.{dec_lt}
 use native.Mathlib.Omega.{arith}
 use lib.ListN.{length, take, drop}
+use Rattle.std.specs.Prelude.{Result, Ok, Err, None}
+use Rattle.refusals.specs.Refusals.{refusal_in}
+use Rattle.refusals.specs.declared.Refusal.{Refusal}
 use Rattle.wire.specs.Number.{Bytes, splice}
 use Rattle.wire.proofs.Place.{length-splice, part_bytes, splice_next, splice-none}
 use Rattle.merge.specs.State.{Feed, Packet, State, copy_of, first_there, keep, kept_if}
 use Rattle.merge.proofs.Clauses.{kept_new, kept_none, kept_old}
 use Rattle.merge.proofs.Copies.{copy_none, copy_told, told_yes}
-use Rattle.window_taking.specs.Keeping.{Known, Neat, admitted_of, held_by, kept_all, kept_by, state_of, waiting_of, window_for}
+use Rattle.window_taking.specs.Keeping.{Known, Neat, admitted_of, fresh_by, held_by, kept_all, kept_by, state_of, waiting_of, window_for}
 use Rattle.window_taking.specs.Taking.{judge}
-use Rattle.window_taking.specs.Turns.{Lies, at_start, behind, done_in, end_from, frame_at, packet_at, packets_from}
+use Rattle.window_taking.specs.Turns.{Lies, at_start, behind, done_in, end_by, end_from, frame_at, packet_at, packets_from}
 use Rattle.window_taking.specs.declared.admitting.Admitted.{Admitted}
 use Rattle.window_taking.specs.declared.burst.Frame.{Frame}
 use Rattle.window_taking.specs.declared.burst.Turn.{Turn}
 use Rattle.window_taking.proofs.Accepted.{overnight-judged}
+use Rattle.window_taking.proofs.Answered.{end_told, fresh_in_answer, fresh_told, refusal_told}
 use Rattle.window_taking.proofs.Following.{Another, Ended, another, ended}
 use Rattle.window_taking.proofs.Frames.{frame_lent}
 use Rattle.window_taking.proofs.Passing.{passes}
@@ -92,18 +96,25 @@ module _ {w : List ℕ} {next end : ℕ} (neat : Neat w next) (known : Known w n
     state_after ends = λ i. record { next = sym left_by.stands i; end = ends i; waiting = holds i; tables = tt }
 
 -- the answer and the window, by what admitting it says
-module _ {s : List ℕ} (turn : Turn) (w : List ℕ) (next : ℕ) (lies : Lies false s turn.at) {f : Frame} (is : f ≡ frame_at false s turn.at) {r : Admitted}
+module _ {s : List ℕ} (turn : Turn) (w : List ℕ) (next : ℕ) (lies : Lies false s turn.at) {f : Frame} (is : f ≡ frame_at false s turn.at) {r : Result Admitted Refusal}
     (told : r ≡ admitted_of false (state_of w next turn.end) (take (f.start + f.size - f.start) (drop f.start s))) where
-  here : r ≡ admitted_of false (state_of w next turn.end) (packet_at false s turn.at)
-  here = told ∙ ap (admitted_of false (state_of w next turn.end)) (frame_lent lies is)
+  abbrev before : State (List ℕ) (Unit {0})
+  before = state_of w next turn.end
 
-  pub row_told : (r.fresh ∷ r.refusal ∷ next ∷ r.end ∷ []) ≡ kept_row (state_of w next turn.end) (packet_at false s turn.at)
-  unfolding admitted_of
-  row_told = λ i. (here i).fresh ∷ (here i).refusal ∷ next ∷ (here i).end ∷ []
+  here : r ≡ admitted_of false before (packet_at false s turn.at)
+  here = told ∙ ap (admitted_of false before) (frame_lent lies is)
 
-  pub turn_told : ◌≡◌ {A = Turn} (record { begun = false; left = turn.left - 1; at = f.start + f.size; place = turn.place + 4; before = next; refusal = 0; end = r.end; direct = 0; from = 0 }) (turn_after (state_of w next turn.end) s turn)
-  unfolding admitted_of
-  turn_told = λ i. record { begun = false; left = turn.left - 1; at = (is i).start + (is i).size; place = turn.place + 4; before = next; refusal = 0; end = (here i).end; direct = 0; from = 0 }
+  end_is : end_by turn.end r ≡ (kept_by before (packet_at false s turn.at)).end
+  end_is = ap (end_by turn.end) here ∙ end_told false before (packet_at false s turn.at)
+
+  pub row_told : {n : ℕ} → n ≡ refusal_in r → (fresh_in_answer r ∷ n ∷ next ∷ end_by turn.end r ∷ []) ≡ kept_row before (packet_at false s turn.at)
+  row_told number =
+      let fresh : fresh_in_answer r ≡ fresh_by before (packet_at false s turn.at) = ap fresh_in_answer here ∙ fresh_told before (packet_at false s turn.at) in
+      let refusal = number ∙ ap refusal_in here ∙ refusal_told false before (packet_at false s turn.at) in
+      λ i. fresh i ∷ refusal i ∷ next ∷ end_is i ∷ []
+
+  pub turn_told : ◌≡◌ {A = Turn} (record { begun = false; left = turn.left - 1; at = f.start + f.size; place = turn.place + 4; before = next; refusal = None; end = end_by turn.end r; direct = 0; from = 0 }) (turn_after before s turn)
+  turn_told = λ i. record { begun = false; left = turn.left - 1; at = (is i).start + (is i).size; place = turn.place + 4; before = next; refusal = None; end = end_is i; direct = 0; from = 0 }
 
   pub window_told : {after : List ℕ} → after ≡ window_for (held_by false (state_of w next turn.end) (take (f.start + f.size - f.start) (drop f.start s))).waiting next
       → after ≡ window_for (kept_by (state_of w next turn.end) (packet_at false s turn.at)).waiting next

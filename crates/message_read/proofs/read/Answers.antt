@@ -5,16 +5,16 @@ use Rattle.message.proofs.Readings.{few, many, another, shorter, good, broken}
 use Rattle.message_read.proofs.read.Goals as goal
 
 pub returns-then-n-lt-HEADER : goal.returns-then-n-lt-HEADER
-returns-then-n-lt-HEADER c = c.refusal.ensures ∙ few _ c.if-n-lt-HEADER.true
+returns-then-n-lt-HEADER c = few _ c.if-n-lt-HEADER.true
 
 pub returns-then-n-gt-LONGEST : goal.returns-then-n-gt-LONGEST
-returns-then-n-gt-LONGEST c = c.refusal-then-n-gt-LONGEST.ensures ∙ many _ c.if-n-lt-HEADER.false c.if-n-gt-LONGEST.true
+returns-then-n-gt-LONGEST c = many _ c.if-n-lt-HEADER.false c.if-n-gt-LONGEST.true
 
 pub returns-then-size-n : goal.returns-then-size-n
-returns-then-size-n c = c.refusal-then-size-n.ensures ∙ another _ c.if-n-lt-HEADER.false c.if-n-gt-LONGEST.false c.u16_at-size.ensures c.if-size-n.true
+returns-then-size-n c = another _ c.if-n-lt-HEADER.false c.if-n-gt-LONGEST.false c.u16_at-size.ensures c.if-size-n.true
 
 pub returns-then-too_short : goal.returns-then-too_short
-returns-then-too_short c = c.refusal-then-too_short.ensures ∙ shorter _ c.if-n-lt-HEADER.false c.if-n-gt-LONGEST.false c.u16_at-size.ensures c.if-size-n.false c.u8_at-kind.ensures (sym c.too_short.ensures ∙ c.if-too_short.true)
+returns-then-too_short c = shorter _ c.if-n-lt-HEADER.false c.if-n-gt-LONGEST.false c.u16_at-size.ensures c.if-size-n.false c.u8_at-kind.ensures (sym c.too_short.ensures ∙ c.if-too_short.true)
 
 pub fields-message-requires : goal.fields-message-requires
 fields-message-requires c = sym c.too_short.ensures ∙ c.if-too_short.false
@@ -23,4 +23,4 @@ pub returns-then-good : goal.returns-then-good
 returns-then-good c = good _ c.if-n-lt-HEADER.false c.if-n-gt-LONGEST.false c.u16_at-size.ensures c.if-size-n.false c.u8_at-kind.ensures (sym c.too_short.ensures ∙ c.if-too_short.false) c.fields-message.ensures (sym c.good.ensures ∙ c.if-good.true)
 
 pub returns : goal.returns
-returns c = c.refusal-2.ensures ∙ broken _ c.if-n-lt-HEADER.false c.if-n-gt-LONGEST.false c.u16_at-size.ensures c.if-size-n.false c.u8_at-kind.ensures (sym c.too_short.ensures ∙ c.if-too_short.false) c.fields-message.ensures (sym c.good.ensures ∙ c.if-good.false)
+returns c = broken _ c.if-n-lt-HEADER.false c.if-n-gt-LONGEST.false c.u16_at-size.ensures c.if-size-n.false c.u8_at-kind.ensures (sym c.too_short.ensures ∙ c.if-too_short.false) c.fields-message.ensures (sym c.good.ensures ∙ c.if-good.false)

@@ -1,101 +1,109 @@
 -- `message_read::parts::fields` answers by the type, and each layout has room.
 -- Assumes nothing.
 use mathlib.Core.Path.{refl, ◌∙◌}
+use Prim.Native.Nat.{ℕ}
 use Rattle.message.specs.Layouts.{layout_of}
-use Rattle.message.specs.Row.{fields_of, message_of, of_security, of_spin_start, of_spin_end, of_trading_session, of_add, of_update, of_delete, of_execution, of_priced, of_top, of_trade}
+use Rattle.message.specs.Row.{bare, fields_of, message_of, of_security, of_spin_start, of_spin_end, of_trading_session, of_add, of_update, of_delete, of_execution, of_priced, of_top, of_trade}
 use Rattle.message.specs.Table.{payload_of}
-use Rattle.message.proofs.Cases.{made, room, unopened}
-use borrow.Author.Rules.{rules}
+use Rattle.message.specs.declared.types.Kind.TheVariants.{Security, SpinStart, SpinEnd, TradingSession, Add, Update, Delete, Execution, Priced, Top, Trade, Imbalance}
+use Rattle.message.specs.declared.kinds.Body.TheVariants.{Other}
+use Rattle.message.proofs.Cases.{made, unopened}
+use Rattle.message.proofs.Listed.{not_opened, number_is, room_for}
 use Rattle.message_read.proofs.parts.fields.Goals as goal
 
 pub security-requires : goal.security-requires
-unfolding payload_of fields_of message_of layout_of
-security-requires c = room 9 _ c.in-9.is refl c.requires
+unfolding payload_of
+security-requires c = room_for Security c.in-Ok.ensures c.in-Security.is c.requires
 
 pub spin_start-requires : goal.spin_start-requires
-unfolding payload_of fields_of message_of layout_of
-spin_start-requires c = room 11 _ c.in-11.is refl c.requires
+unfolding payload_of
+spin_start-requires c = room_for SpinStart c.in-Ok.ensures c.in-SpinStart.is c.requires
 
 pub spin_end-requires : goal.spin_end-requires
-unfolding payload_of fields_of message_of layout_of
-spin_end-requires c = room 12 _ c.in-12.is refl c.requires
+unfolding payload_of
+spin_end-requires c = room_for SpinEnd c.in-Ok.ensures c.in-SpinEnd.is c.requires
 
 pub trading_session-requires : goal.trading_session-requires
-unfolding payload_of fields_of message_of layout_of
-trading_session-requires c = room 20 _ c.in-20.is refl c.requires
+unfolding payload_of
+trading_session-requires c = room_for TradingSession c.in-Ok.ensures c.in-TradingSession.is c.requires
 
 pub add-requires : goal.add-requires
-unfolding payload_of fields_of message_of layout_of
-add-requires c = room 21 _ c.in-21.is refl c.requires
+unfolding payload_of
+add-requires c = room_for Add c.in-Ok.ensures c.in-Add.is c.requires
 
 pub update-requires : goal.update-requires
-unfolding payload_of fields_of message_of layout_of
-update-requires c = room 22 _ c.in-22.is refl c.requires
+unfolding payload_of
+update-requires c = room_for Update c.in-Ok.ensures c.in-Update.is c.requires
 
 pub named-requires : goal.named-requires
-unfolding payload_of fields_of message_of layout_of
-named-requires c = room 23 _ c.in-23.is refl c.requires
+unfolding payload_of
+named-requires c = room_for Delete c.in-Ok.ensures c.in-Delete.is c.requires
 
 pub execution-requires : goal.execution-requires
-unfolding payload_of fields_of message_of layout_of
-execution-requires c = room 24 _ c.in-24.is refl c.requires
+unfolding payload_of
+execution-requires c = room_for Execution c.in-Ok.ensures c.in-Execution.is c.requires
 
 pub priced-requires : goal.priced-requires
-unfolding payload_of fields_of message_of layout_of
-priced-requires c = room 25 _ c.in-25.is refl c.requires
+unfolding payload_of
+priced-requires c = room_for Priced c.in-Ok.ensures c.in-Priced.is c.requires
 
 pub top-requires : goal.top-requires
-unfolding payload_of fields_of message_of layout_of
-top-requires c = room 26 _ c.in-26.is refl c.requires
+unfolding payload_of
+top-requires c = room_for Top c.in-Ok.ensures c.in-Top.is c.requires
 
 pub trade-requires : goal.trade-requires
-unfolding payload_of fields_of message_of layout_of
-trade-requires c = room 27 _ c.in-27.is refl c.requires
+unfolding payload_of
+trade-requires c = room_for Trade c.in-Ok.ensures c.in-Trade.is c.requires
 
-pub returns-in-9 : goal.returns-in-9
-unfolding payload_of fields_of message_of layout_of
-returns-in-9 c = made _ of_security c.in-9.is c.of_security.ensures c.security.ensures refl
+pub returns-in-Security : goal.returns-in-Security
+unfolding fields_of message_of layout_of
+returns-in-Security c = made _ of_security (number_is Security c.in-Ok.ensures c.in-Security.is) c.of_security.ensures c.security.ensures refl
 
-pub returns-in-11 : goal.returns-in-11
-unfolding payload_of fields_of message_of layout_of
-returns-in-11 c = made _ of_spin_start c.in-11.is c.of_spin_start.ensures c.spin_start.ensures refl
+pub returns-in-SpinStart : goal.returns-in-SpinStart
+unfolding fields_of message_of layout_of
+returns-in-SpinStart c = made _ of_spin_start (number_is SpinStart c.in-Ok.ensures c.in-SpinStart.is) c.of_spin_start.ensures c.spin_start.ensures refl
 
-pub returns-in-12 : goal.returns-in-12
-unfolding payload_of fields_of message_of layout_of
-returns-in-12 c = made _ of_spin_end c.in-12.is c.of_spin_end.ensures c.spin_end.ensures refl
+pub returns-in-SpinEnd : goal.returns-in-SpinEnd
+unfolding fields_of message_of layout_of
+returns-in-SpinEnd c = made _ of_spin_end (number_is SpinEnd c.in-Ok.ensures c.in-SpinEnd.is) c.of_spin_end.ensures c.spin_end.ensures refl
 
-pub returns-in-20 : goal.returns-in-20
-unfolding payload_of fields_of message_of layout_of
-returns-in-20 c = made _ of_trading_session c.in-20.is c.of_trading_session.ensures c.trading_session.ensures refl
+pub returns-in-TradingSession : goal.returns-in-TradingSession
+unfolding fields_of message_of layout_of
+returns-in-TradingSession c = made _ of_trading_session (number_is TradingSession c.in-Ok.ensures c.in-TradingSession.is) c.of_trading_session.ensures c.trading_session.ensures refl
 
-pub returns-in-21 : goal.returns-in-21
-unfolding payload_of fields_of message_of layout_of
-returns-in-21 c = made _ of_add c.in-21.is c.of_add.ensures c.add.ensures refl
+pub returns-in-Add : goal.returns-in-Add
+unfolding fields_of message_of layout_of
+returns-in-Add c = made _ of_add (number_is Add c.in-Ok.ensures c.in-Add.is) c.of_add.ensures c.add.ensures refl
 
-pub returns-in-22 : goal.returns-in-22
-unfolding payload_of fields_of message_of layout_of
-returns-in-22 c = made _ of_update c.in-22.is c.of_update.ensures c.update.ensures refl
+pub returns-in-Update : goal.returns-in-Update
+unfolding fields_of message_of layout_of
+returns-in-Update c = made _ of_update (number_is Update c.in-Ok.ensures c.in-Update.is) c.of_update.ensures c.update.ensures refl
 
-pub returns-in-23 : goal.returns-in-23
-unfolding payload_of fields_of message_of layout_of
-returns-in-23 c = made _ of_delete c.in-23.is c.of_delete.ensures c.named.ensures refl
+pub returns-in-Delete : goal.returns-in-Delete
+unfolding fields_of message_of layout_of
+returns-in-Delete c = made _ of_delete (number_is Delete c.in-Ok.ensures c.in-Delete.is) c.of_delete.ensures c.named.ensures refl
 
-pub returns-in-24 : goal.returns-in-24
-unfolding payload_of fields_of message_of layout_of
-returns-in-24 c = made _ of_execution c.in-24.is c.of_execution.ensures c.execution.ensures refl
+pub returns-in-Execution : goal.returns-in-Execution
+unfolding fields_of message_of layout_of
+returns-in-Execution c = made _ of_execution (number_is Execution c.in-Ok.ensures c.in-Execution.is) c.of_execution.ensures c.execution.ensures refl
 
-pub returns-in-25 : goal.returns-in-25
-unfolding payload_of fields_of message_of layout_of
-returns-in-25 c = made _ of_priced c.in-25.is c.of_priced.ensures c.priced.ensures refl
+pub returns-in-Priced : goal.returns-in-Priced
+unfolding fields_of message_of layout_of
+returns-in-Priced c = made _ of_priced (number_is Priced c.in-Ok.ensures c.in-Priced.is) c.of_priced.ensures c.priced.ensures refl
 
-pub returns-in-26 : goal.returns-in-26
-unfolding payload_of fields_of message_of layout_of
-returns-in-26 c = made _ of_top c.in-26.is c.of_top.ensures c.top.ensures refl
+pub returns-in-Top : goal.returns-in-Top
+unfolding fields_of message_of layout_of
+returns-in-Top c = made _ of_top (number_is Top c.in-Ok.ensures c.in-Top.is) c.of_top.ensures c.top.ensures refl
 
-pub returns-in-27 : goal.returns-in-27
-unfolding payload_of fields_of message_of layout_of
-returns-in-27 c = made _ of_trade c.in-27.is c.of_trade.ensures c.trade.ensures refl
+pub returns-in-Trade : goal.returns-in-Trade
+unfolding fields_of message_of layout_of
+returns-in-Trade c = made _ of_trade (number_is Trade c.in-Ok.ensures c.in-Trade.is) c.of_trade.ensures c.trade.ensures refl
+
+pub returns-in-Imbalance : goal.returns-in-Imbalance
+unfolding fields_of message_of layout_of
+returns-in-Imbalance c =
+    let e = number_is Imbalance c.in-Ok.ensures c.in-Imbalance.is in
+    made _ (λ (type : ℕ). bare (Other type)) e c.plain-in-Imbalance.ensures e refl
 
 pub returns-in_default : goal.returns-in_default
-unfolding payload_of fields_of message_of layout_of
-returns-in_default c = c.plain.ensures ∙ unopened _ _ (search rules)
+returns-in_default c = c.plain.ensures ∙ unopened _ _ (not_opened _ c.in_default.ensures.1)
