@@ -10,7 +10,10 @@ pub fn judge(s: &[u8]) -> Result<(), Refusal>
     ensures { refusal_in result ≡ refusal_of s.now }
 {
     match packet_judge::judge(s) {
-        Err(rejection) if rejection.refusal != Refusal::PastLastNumber => Err(rejection.refusal),
-        _ => Ok(()),
+        Ok(()) => Ok(()),
+        Err(rejection) => match rejection.refusal {
+            Refusal::PastLastNumber => Ok(()),
+            refusal => Err(refusal),
+        },
     }
 }

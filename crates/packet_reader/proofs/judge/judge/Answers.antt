@@ -1,10 +1,18 @@
 -- `packet_reader::judge::judge` meets its contract: 1 to 8, with 8 left out.
 -- Assumes nothing.
+use Rattle.std.proofs.Common.{ap, ◌∙◌, sym}
+use native.Mathlib.Omega.{arith}
+use Rattle.refusals.specs.Refusals.{number_of, refusal_by}
+use Rattle.refusals.proofs.Numbers.{by_number}
 use Rattle.packet_reader.proofs.Refusals.{eight, others}
 use Rattle.packet_reader.proofs.judge.judge.Goals as goal
 
-pub returns-then-said-eq8 : goal.returns-then-said-eq8
-returns-then-said-eq8 c = eight _ c.judge-said.ensures c.if-said-eq8.true
+pub returns-in-Ok : goal.returns-in-Ok
+returns-in-Ok c = others _ _ _ (c.in-Ok.ensures {u = tt}) (λ e. absurd (omega arith))
 
-pub returns : goal.returns
-returns c = others _ c.judge-said.ensures c.if-said-eq8.false
+pub returns-in-PastLastNumber : goal.returns-in-PastLastNumber
+returns-in-PastLastNumber c = eight _ _ _ (c.in-Err.ensures {u = tt}) (ap number_of c.in-PastLastNumber.is)
+
+pub returns-in_default : goal.returns-in_default
+unfolding refusal_by
+returns-in_default c = others _ _ _ (c.in-Err.ensures {u = tt}) (λ e. c.in_default.not-PastLastNumber (sym (by_number _) ∙ ap refusal_by e))
