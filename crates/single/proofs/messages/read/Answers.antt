@@ -1,17 +1,18 @@
--- A message told, by cases of what reading gives.
--- Assumes nothing.
-use Rattle.single.proofs.Laying.{read_accepted, read_laid, read_refused}
+use Rattle.std.proofs.Common.{rules, ◌≡◌, [], ◌∷◌, false, ◌≤◌, length, ℕ, ◌+◌, ◌-◌, ◌*◌, ◌<◌, ◌/◌, ◌%◌, Bool, true, nat_eq, nat_lt, List, ◌++◌, slice_index_or, slice_set, bit_and, bit_or, Fits, w8, w32, w64, Bor, MutBor}
+use Rattle.wire.specs.Number.{splice}
+use Rattle.message.specs.Layouts.{layout_of, type_in}
+use Rattle.message.specs.Reading.{read_of}
+use Rattle.single.specs.Over.{over, over_from}
+use Rattle.single.specs.Given.{bytes_from, given_buffer, given_of, message_if, wide_from}
+use Rattle.refusals.specs.Refusals.{refusal_in}
+use Rattle.single.specs.Told.{number_told}
+use Rattle.single.specs.Words.{message_told, widths_by, widths_of, words_at, words_of, Laid}
 use Rattle.single.proofs.messages.read.Goals as goal
 
+-- src/messages.rt:49:13
 pub tell-requires : goal.tell-requires
-tell-requires c = read_laid _ c.args.told.now c.read-reading.ensures c.in-Accepted.is
+tell-requires c = ?
 
-pub returns-in-Accepted : goal.returns-in-Accepted
-returns-in-Accepted c =
-    let h = read_accepted _ c.args.told.now c.read-reading.ensures c.in-Accepted.is c.tell.ensures in
-    record { refusal = h.0; told = h.1 }
-
-pub returns-in-Refused : goal.returns-in-Refused
-returns-in-Refused c =
-    let h = read_refused _ c.args.told.now c.read-reading.ensures c.in-Refused.is in
-    record { refusal = h.0; told = h.1 }
+-- src/messages.rt:43:1
+pub returns-in-Ok-clause-told : goal.returns-in-Ok-clause-told
+returns-in-Ok-clause-told c = ?

@@ -1,29 +1,34 @@
--- A message written from its numbers, by whether all of them fit.
--- Assumes nothing.
-use Rattle.single.proofs.Giving.{field_wide, filled, given_written, type_wide, words_laid}
+use Rattle.std.proofs.Common.{rules, ◌≡◌, [], ◌∷◌, false, ◌≤◌, length, ℕ, ◌+◌, ◌-◌, ◌*◌, ◌<◌, ◌/◌, ◌%◌, Bool, true, nat_eq, nat_lt, List, ◌++◌, slice_index_or, slice_set, bit_and, bit_or, Fits, w8, w32, w64, Bor, MutBor}
+use Rattle.wire.specs.Number.{splice}
+use Rattle.message.specs.Layouts.{layout_of, type_in}
+use Rattle.message.specs.Reading.{read_of}
+use Rattle.single.specs.Over.{over, over_from}
+use Rattle.single.specs.Given.{bytes_from, given_buffer, given_of, message_if, wide_from}
+use Rattle.refusals.specs.Refusals.{refusal_in}
+use Rattle.single.specs.Told.{number_told}
+use Rattle.single.specs.Words.{message_told, widths_by, widths_of, words_at, words_of, Laid}
 use Rattle.single.proofs.messages.write.Goals as goal
 
-pub returns-then-first-ge256 : goal.returns-then-first-ge256
-returns-then-first-ge256 c =
-    let a = c.args in
-    let h = type_wide a.numbers.now a.buf.now a.at a.told.now c.if-first-ge256.true in
-    record { refusal = h.0; buffer = h.1.0; told = h.1.1 }
+-- src/messages.rt:94:1
+pub returns-in-Ok-clause-refusal : goal.returns-in-Ok-clause-refusal
+returns-in-Ok-clause-refusal c = ?
 
-pub fill-requires : goal.fill-requires
-fill-requires c = words_laid _ c.words_of.ensures
+-- src/messages.rt:94:1
+pub returns-in-Ok-clause-buffer : goal.returns-in-Ok-clause-buffer
+returns-in-Ok-clause-buffer c = ?
 
-pub returns-then-fill : goal.returns-then-fill
-returns-then-fill c =
-    let a = c.args in
-    let h = field_wide a.numbers.now a.buf.now a.at a.told.now c.if-first-ge256.false c.words_of.ensures c.fill.ensures.wide c.if-fill.true in
-    record { refusal = h.0; buffer = h.1.0; told = h.1.1 }
+-- src/messages.rt:94:1
+pub returns-in-Ok-clause-told : goal.returns-in-Ok-clause-told
+returns-in-Ok-clause-told c = ?
 
-pub fields-message-requires : goal.fields-message-requires
-fields-message-requires c = filled _ c.args.numbers.now c.words_of.ensures (c.fill.ensures.bytes c.if-fill.false)
+-- src/messages.rt:94:1
+pub returns-in-Err-clause-refusal : goal.returns-in-Err-clause-refusal
+returns-in-Err-clause-refusal c = ?
 
-pub returns : goal.returns
-returns c =
-    let a = c.args in
-    let good = c.if-fill.false in
-    let h = given_written a.numbers.now a.buf.now a.at a.told.now c.if-first-ge256.false c.words_of.ensures c.fill.ensures.wide good (c.fill.ensures.bytes good) c.fields-message.ensures c.write-written.ensures.answer c.write-written.ensures.buffer c.tell_count.ensures.refusal c.tell_count.ensures.told in
-    record { refusal = h.0; buffer = h.1.0; told = h.1.1 }
+-- src/messages.rt:94:1
+pub returns-in-Err-clause-buffer : goal.returns-in-Err-clause-buffer
+returns-in-Err-clause-buffer c = ?
+
+-- src/messages.rt:94:1
+pub returns-in-Err-clause-told : goal.returns-in-Err-clause-told
+returns-in-Err-clause-told c = ?

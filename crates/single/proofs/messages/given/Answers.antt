@@ -1,0 +1,30 @@
+use Rattle.std.proofs.Common.{rules, ◌≡◌, [], ◌∷◌, false, ◌≤◌, length, ℕ, ◌+◌, ◌-◌, ◌*◌, ◌<◌, ◌/◌, ◌%◌, Bool, true, nat_eq, nat_lt, List, ◌++◌, slice_index_or, slice_set, bit_and, bit_or, Fits, w8, w32, w64, Bor, MutBor}
+use Rattle.wire.specs.Number.{splice}
+use Rattle.message.specs.Layouts.{layout_of, type_in}
+use Rattle.message.specs.Reading.{read_of}
+use Rattle.single.specs.Over.{over, over_from}
+use Rattle.single.specs.Given.{bytes_from, given_buffer, given_of, message_if, wide_from}
+use Rattle.refusals.specs.Refusals.{refusal_in}
+use Rattle.single.specs.Told.{number_told}
+use Rattle.single.specs.Words.{message_told, widths_by, widths_of, words_at, words_of, Laid}
+use Rattle.single.proofs.messages.given.Goals as goal
+
+-- src/messages.rt:83:9
+pub returns-then-first-ge256 : goal.returns-then-first-ge256
+returns-then-first-ge256 c = ?
+
+-- src/messages.rt:87:8
+pub fill-requires : goal.fill-requires
+fill-requires c = ?
+
+-- src/messages.rt:88:9
+pub returns-then-fill : goal.returns-then-fill
+returns-then-fill c = ?
+
+-- src/messages.rt:90:8
+pub fields-requires : goal.fields-requires
+fields-requires c = ?
+
+-- src/messages.rt:78:1
+pub returns : goal.returns
+returns c = ?
