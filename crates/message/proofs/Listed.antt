@@ -25,6 +25,24 @@ small_number Top = lit≤ tt
 small_number Trade = lit≤ tt
 small_number Imbalance = lit≤ tt
 
+-- no listed type has number 0
+pub some_number : (kind : Kind) → type_number kind ≡ 0 → ⊥
+some_number kind e = true-false (sym (eq-eqb _ _ e) ∙ other kind)
+  where
+    other : (kind : Kind) → eqb (type_number kind) 0 ≡ false
+    other Security = refl
+    other SpinStart = refl
+    other SpinEnd = refl
+    other TradingSession = refl
+    other Add = refl
+    other Update = refl
+    other Delete = refl
+    other Execution = refl
+    other Priced = refl
+    other Top = refl
+    other Trade = refl
+    other Imbalance = refl
+
 -- a number that is none of the twelve is not listed
 pub not_listed : (n : ℕ) → Unopened n → (n ≡ 28 → ⊥) → payload_of n ≡ 255
 unfolding payload_of

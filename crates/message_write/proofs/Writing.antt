@@ -16,6 +16,9 @@ use Rattle.message.specs.Layouts.{head, layout_of}
 use Rattle.message.specs.Row.{row_of, type_of}
 use Rattle.message.specs.Rules.{good_message}
 use Rattle.message.specs.Table.{payload_of}
+use Rattle.message.specs.Types.{type_number}
+use Rattle.message.specs.declared.types.Kind.{Kind}
+use Rattle.message.proofs.Listed.{some_number}
 use Rattle.message_write.specs.Writing.{answer_of, buffer_after, head_row, is_written, message_bytes, message_size, write_of, written_type}
 use Rattle.message.specs.declared.kinds.Message.{Message}
 use Rattle.std.proofs.Common.{Result, Ok, Err}
@@ -42,33 +45,33 @@ pub accepts : (m : Message) (n at : ℕ) → is_written m ≡ true → good_mess
 unfolding answer_of
 accepts m n at written good room = simp (written, good, le-ltb n (at + message_size (type_of m)) room)
 
-module _ (m : Message) (n at : ℕ) {kind : ℕ} (told : kind ≡ written_type m) where
-  pub unwritten : kind ≡ 0 → Err RuleBroken ≡ answer_of m n at
+-- a message that is not written
+pub unwritten : (m : Message) (n at : ℕ) → 0 ≡ written_type m → Err RuleBroken ≡ answer_of m n at
+unfolding answer_of
+unwritten m n at e = simp (told_none m (is_written m) refl (sym e))
+
+module _ (m : Message) (n at : ℕ) (kind : Kind) (told : type_number kind ≡ written_type m) where
+  known : (is_written m ≡ true) × (written_type m ≡ type_of m)
+  known = told_some m (is_written m) refl (λ e. some_number kind (told ∙ e))
+
+  pub broken : good_message m ≡ false → Err RuleBroken ≡ answer_of m n at
   unfolding answer_of
-  unwritten e = simp (told_none m (is_written m) refl (sym told ∙ e))
+  broken h = simp (known.0, h)
 
-  module _ (some : kind ≡ 0 → ⊥) where
-    known : (is_written m ≡ true) × (written_type m ≡ type_of m)
-    known = told_some m (is_written m) refl (λ e. some (told ∙ e))
+  module _ (good : good_message m ≡ true) {size : ℕ} (sized : size ≡ message_size (type_number kind)) where
+    whole : size ≡ message_size (type_of m)
+    whole = sized ∙ ap message_size (told ∙ known.1)
 
-    pub broken : good_message m ≡ false → Err RuleBroken ≡ answer_of m n at
+    pub past : n < at → Err NoRoom ≡ answer_of m n at
     unfolding answer_of
-    broken h = simp (known.0, h)
+    past h = simp (known.0, good, lt-ltb n (at + message_size (type_of m)) (omega arith))
 
-    module _ (good : good_message m ≡ true) {size : ℕ} (sized : size ≡ message_size kind) where
-      whole : size ≡ message_size (type_of m)
-      whole = sized ∙ ap message_size (told ∙ known.1)
+    pub short : at ≤ n → n - at < size → Err NoRoom ≡ answer_of m n at
+    unfolding answer_of
+    short least h = simp (known.0, good, lt-ltb n (at + message_size (type_of m)) (omega (arith, whole)))
 
-      pub past : n < at → Err NoRoom ≡ answer_of m n at
-      unfolding answer_of
-      past h = simp (known.0, good, lt-ltb n (at + message_size (type_of m)) (omega arith))
-
-      pub short : at ≤ n → n - at < size → Err NoRoom ≡ answer_of m n at
-      unfolding answer_of
-      short least h = simp (known.0, good, lt-ltb n (at + message_size (type_of m)) (omega (arith, whole)))
-
-      pub fits : at ≤ n → size ≤ n - at → Ok size ≡ answer_of m n at
-      fits least h = ap Ok whole ∙ sym (accepts m n at known.0 good (omega (arith, whole)))
+    pub fits : at ≤ n → size ≤ n - at → Ok size ≡ answer_of m n at
+    fits least h = ap Ok whole ∙ sym (accepts m n at known.0 good (omega (arith, whole)))
 
 -- what a count says
 pub record Counted (m : Message) (n at size : ℕ) : Type 0 where
