@@ -1,14 +1,12 @@
 -- One that may apply a message is left; any other is kept or refused.
 -- Assumes nothing.
-use mathlib.Core.Path.{◌≡◌, ◌∙◌, ap, sym, subst}
-use mathlib.Core.Bool.{true, false}
+use mathlib.Core.Path.{◌∙◌, ap, sym}
 use native.Mathlib.Omega.{arith}
 use Rattle.std.specs.Prelude.{Err}
 use Rattle.std.proofs.lemmas.Result.{err_from_is_err_and}
-use Rattle.session.proofs.Calls.{numbered, rule_of}
+use Rattle.session.proofs.Calls.{numbered}
 use Rattle.session_keeping.specs.Passing.{passed_by}
 use Rattle.session_keeping.proofs.Passes.{kept_over, left_alone, told_applies, told_passed}
-use borrow.Author.Rules.{rules}
 use Rattle.session_keeping.proofs.passing.pass.Goals as goal
 
 pub returns-then-applies : goal.returns-then-applies
