@@ -5,20 +5,17 @@ use mathlib.Core.List.{List}
 use Prim.Native.Nat.{ℕ, ◌≤◌, ◌<◌}
 use native.Mathlib.Omega.{arith}
 use lib.ListN.{length, get_or, take}
+use Rattle.std.specs.Prelude.{Option, Some, None, Result, Ok, Err}
+use Rattle.refusals.specs.declared.Refusal.{Refusal}
+use Rattle.refusals.specs.declared.Refusal.TheVariants.{NotThere}
 use Rattle.fields.specs.Id.{id_answer}
-use Rattle.fields.specs.declared.id.IdValue.{IdValue}
-use Rattle.fields.specs.declared.id.IdValue.TheVariants.{Value, Refused}
-use Rattle.book.specs.Asking.{inside_for, no_order_for, order_asked}
+use Rattle.book.specs.Asking.{inside_for, order_asked}
 use Rattle.book.specs.Lookup.{key_at}
 use Rattle.book.specs.Tables as book
 use Rattle.book.specs.Tables.{blank, Book, Tables, gone}
-use Rattle.book.specs.declared.asking.InsideReply.{InsideReply}
-use Rattle.book.specs.declared.asking.OrderReply.{OrderReply}
-use Rattle.book.specs.declared.asking.Reply.TheVariants.{Known}
-use Rattle.book.specs.declared.lookup.Found.{Found}
-use Rattle.book.specs.declared.lookup.Found.TheVariants.{At, Nothing}
+use Rattle.book.specs.declared.tables.Inside.{Inside}
 use Rattle.book.specs.declared.tables.Order.{Order}
-use Rattle.book.proofs.Answers.{order_bad, order_known, order_none, order_within}
+use Rattle.book.proofs.Answers.{order_known, order_none, order_refused, order_within}
 use Rattle.book.proofs.Keeping as keeping
 use Rattle.book_room.specs.Room.{Lies, inside_at, insides_in}
 use Rattle.book_room.proofs.Insides as insides
@@ -58,32 +55,32 @@ module _ {s : Held} (rule : Ruled s) where
   tables_are : tables_in s.session s.room ≡ book.view tabled
   tables_are = ap (λ (h : Held). tables_in h.session h.room) (stands rule).same ∙ tables_rep (stands rule).good ∙ sym (keeping.view-rep state.tables)
 
-  pub order_asked_lem : (id : List ℕ) {r : OrderReply} → r ≡ order_asked (book.view tabled) id → r ≡ order_asked (tables_in s.session s.room) id
+  pub order_asked_lem : (id : List ℕ) {r : Result Order Refusal} → r ≡ order_asked (book.view tabled) id → r ≡ order_asked (tables_in s.session s.room) id
   order_asked_lem id e = e ∙ ap (λ (t : Tables). order_asked t id) (sym tables_are)
 
-  pub inside_asked_lem : (symbol : List ℕ) {r : InsideReply} → r ≡ inside_for (book.view tabled).insides symbol → r ≡ inside_for (insides_in s.room) symbol
+  pub inside_asked_lem : (symbol : List ℕ) {r : Result Inside Refusal} → r ≡ inside_for (book.view tabled).insides symbol → r ≡ inside_for (insides_in s.room) symbol
   inside_asked_lem symbol e = e ∙ ap (λ (t : Tables). inside_for t.insides symbol) (sym tables_are)
 
   -- an order by its id: what `value` answers, and what is found in the room
-  module _ (id : List ℕ) {answer : IdValue} (asked : answer ≡ id_answer id) where
-    pub bad_asked : {n : ℕ} → answer ≡ Refused n → no_order_for 12 ≡ order_asked (tables_in s.session s.room) id
-    bad_asked e = order_asked_lem id (order_bad tabled lies.kept id asked e)
+  module _ (id : List ℕ) {answer : Result ℕ Refusal} (asked : answer ≡ id_answer id) where
+    pub bad_asked : {refusal : Refusal} → answer ≡ Err refusal → Err refusal ≡ order_asked (tables_in s.session s.room) id
+    bad_asked e = order_asked_lem id (order_refused tabled lies.kept id asked e)
 
-    module _ {key : ℕ} (value : answer ≡ Value key) {found : Found} (sought : (next end : ℕ) (b : Book) → Lies s.room next end b → found ≡ key_at key (take b.live b.keys)) where
+    module _ {key : ℕ} (value : answer ≡ Ok key) {found : Option ℕ} (sought : (next end : ℕ) (b : Book) → Lies s.room next end b → found ≡ key_at key (take b.live b.keys)) where
       there : found ≡ key_at key (take tabled.live tabled.keys)
       there = sought state.next state.end tabled lies
 
-      pub none_asked : found ≡ Nothing → no_order_for 13 ≡ order_asked (tables_in s.session s.room) id
+      pub none_asked : found ≡ None → Err NotThere ≡ order_asked (tables_in s.session s.room) id
       none_asked e = order_asked_lem id (order_none tabled lies.kept id asked value there e)
 
-      module _ {place : ℕ} (at : found ≡ At place) where
+      module _ {place : ℕ} (at : found ≡ Some place) where
         pub order_few : place < 256
         order_few = omega (arith, order_within tabled lies.kept id asked value there at, lies.kept.live)
 
-        pub known_asked : ◌≡◌ {A = OrderReply} (record { reply = Known; order = get_or s.session.orders place blank }) (order_asked (tables_in s.session s.room) id)
+        pub known_asked : ◌≡◌ {A = Result Order Refusal} (Ok (get_or s.session.orders place blank)) (order_asked (tables_in s.session s.room) id)
         known_asked =
             order_asked_lem id
-            (ap (λ (l : List Order). record { reply = Known; order = get_or l place blank }) orders_are ∙ order_known tabled lies.kept id asked value there at)
+            (ap (λ (l : List Order). Ok (get_or l place blank)) orders_are ∙ order_known tabled lies.kept id asked value there at)
 
   -- the inside at a place that is held
   module _ {place : ℕ} (within : place < tabled.held) where

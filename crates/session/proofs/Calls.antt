@@ -6,9 +6,14 @@ use mathlib.Core.List.{List, [], ◌∷◌, ◌++◌}
 use mathlib.Core.Option.{Option, none, some}
 use Prim.Native.Nat.{ℕ, zero, suc, ◌+◌, ◌-◌, ◌*◌, ◌/◌, ◌%◌, ◌≤◌, ◌<◌, min, max}
 use native.Mathlib.Omega.{arith}
-use borrow.Author.Tests.{eq-eqb, le-ltb, leb-false, leb-true, lt-ltb, ne_eqb}
+use borrow.Author.Tests.{le-ltb, leb-false, leb-true, lt-ltb}
 use lib.Dec.{eqb, leb, ltb}
 use lib.ListN.{length, get_or, replicate, set}
+use Rattle.std.specs.Prelude.{Result, Ok, Err}
+use Rattle.refusals.specs.Refusals.{answered, number_of}
+use Rattle.refusals.specs.declared.Refusal.{Refusal}
+use Rattle.refusals.specs.declared.Refusal.TheVariants.{NoRoom}
+use Rattle.refusals.proofs.Numbers.{answered_err}
 use Rattle.wire.specs.Number.{Bytes, part, splice}
 use Rattle.wire.proofs.Place.{part-all, part_bytes, splice-none}
 use Rattle.merge.specs.State.{apply_some, apply_up_to, applying, call_all, call_one, is_there, lowest_from, lowest_in, opened, take_all, take_one}
@@ -25,26 +30,21 @@ use Rattle.window.specs.Window.{place_of, places_from, size_at, start_of, waits_
 use Rattle.window.specs.declared.missing.Gap.{Gap}
 use Rattle.window.proofs.FirstNumber.{Between, first_between}
 use Rattle.book.specs.Tables.{fresh, no_inside, no_order, places}
-use Rattle.book.specs.declared.tables.OpeningRule.TheVariants.{Default, Strict}
+use Rattle.book.specs.declared.tables.OpeningRule.{OpeningRule}
 use Rattle.book.specs.declared.tables.Order.{Order}
 use Rattle.book_index.specs.Chains.{index_of}
-use Rattle.book_room.specs.Room.{parts_of}
+use Rattle.book_room.specs.Room.{parts_of, rule_number}
 use Rattle.book_room.specs.Room.{rows_of as inside_rows}
 use Rattle.window_taking.specs.Keeping.{waiting_of, window_for}
-use Rattle.window_taking.specs.Taking.{take_tests, wait_tests}
 use Rattle.window_taking.specs.Turns.{behind, cut_at, end_from, frame_at, packet_at, packets_from, packets_in}
 use Rattle.window_taking.proofs.Accepted.{overnight-judged}
+use Rattle.window_taking.proofs.Answered.{test_most}
 use Rattle.window_taking.proofs.Windows.{waits_place}
 use Rattle.session.specs.Meaning.{AllBytes, Held, Ruled, Meaning, end_in, feed, held, next_in, overnight, rep, view}
 use Rattle.book_index.proofs.Laws.{index_empty}
 use Rattle.session.specs.Asking.{gap_from, gaps_of, lacks, limit, line_in, missing, placed}
-use Rattle.session.specs.Bursts.{answer_of, answered, applied_by, answers_after, burst_of, bytes_of, count_if, count_of, refusal_of, row_of, rows_of}
+use Rattle.session.specs.Bursts.{answer_of, applied_by, answers_after, burst_of, bytes_of, count_if, count_of, row_of, rows_of}
 use Rattle.session.specs.Bursts.{Runs}
-use Rattle.session.specs.declared.packets.Answer.{Answer}
-use Rattle.session.specs.declared.packets.Answer.TheVariants.{Applied, Refused}
-use Rattle.session.specs.declared.packets.Count.{Count}
-use Rattle.session.specs.declared.packets.Count.TheVariants as count
-use Rattle.session.specs.declared.state.Session.{Session}
 use Rattle.session.proofs.States.{ruled_calls, ruled_more, ruled_rule, stands}
 
 -- ---- an opening
@@ -64,23 +64,17 @@ all_free p (suc n) =
 zeros_more : (a b : ℕ) {l : List ℕ} → l ≡ replicate b 0 → replicate a 0 ++ l ≡ replicate (a + b) 0
 zeros_more a b e = ap (λ (k : List ℕ). replicate a 0 ++ k) e ∙ replicate_more a b 0
 
-pub opened_with : (n : ℕ) {order : Order} {room window : List ℕ} → order ≡ no_order → room ≡ replicate 2308 0 → window ≡ replicate 32768 0
-    → held (record { orders = replicate 256 order }) (set (set room 0 n) 1 n) window ≡ rep (opened (fresh Default) n)
+pub opened_with : (rule : OpeningRule) (n : ℕ) {number : ℕ} {order : Order} {room window : List ℕ} → number ≡ rule_number rule → order ≡ no_order → room ≡ replicate 2308 0 → window ≡ replicate 32768 0
+    → held (record { orders = replicate 256 order }) (set (set (set room 0 n) 1 n) 8 number) window ≡ rep (opened (fresh rule) n)
 unfolding opened window_for window_of places parts_of inside_rows
-opened_with n {order} {room} {window} o r w =
+opened_with rule n {number} {order} {room} {window} u o r w =
     let rows : inside_rows (replicate 64 no_inside) ≡ replicate 384 0 = refl in
     let backs : replicate 64 0 ++ inside_rows (replicate 64 no_inside) ≡ replicate 448 0 = zeros_more 64 384 rows in
     let fronts : replicate 64 0 ++ (replicate 64 0 ++ inside_rows (replicate 64 no_inside)) ≡ replicate 512 0 = zeros_more 64 448 backs in
     let symbols : index_of [] ++ (replicate 64 0 ++ (replicate 64 0 ++ inside_rows (replicate 64 no_inside))) ≡ replicate 1277 0 = ap (λ (l : List ℕ). l ++ (replicate 64 0 ++ (replicate 64 0 ++ inside_rows (replicate 64 no_inside)))) index_empty ∙ zeros_more 765 512 fronts in
     let index : index_of [] ++ (index_of [] ++ (replicate 64 0 ++ (replicate 64 0 ++ inside_rows (replicate 64 no_inside)))) ≡ replicate 2042 0 = ap (λ (l : List ℕ). l ++ (index_of [] ++ (replicate 64 0 ++ (replicate 64 0 ++ inside_rows (replicate 64 no_inside))))) index_empty ∙ zeros_more 765 1277 symbols in
     let keys : replicate 256 0 ++ (index_of [] ++ (index_of [] ++ (replicate 64 0 ++ (replicate 64 0 ++ inside_rows (replicate 64 no_inside))))) ≡ replicate 2298 0 = zeros_more 256 2042 index in
-    λ i. held (record { orders = replicate 256 (o i) }) ((ap (λ (l : List ℕ). set (set l 0 n) 1 n) r ∙ ap (λ (l : List ℕ). n ∷ n ∷ 0 ∷ 0 ∷ 0 ∷ 0 ∷ 0 ∷ 0 ∷ 0 ∷ 0 ∷ l) (sym keys)) i) ((w ∙ all_free 0 256) i)
-
--- the strict rule is one number more
-pub opened_strictly : (n : ℕ) {session : Session} {room window : List ℕ} → held session room window ≡ rep (opened (fresh Default) n)
-    → held session (set room 8 1) window ≡ rep (opened (fresh Strict) n)
-unfolding opened parts_of
-opened_strictly n e = λ i. held (e i).session (set (e i).room 8 1) (e i).window
+    λ i. held (record { orders = replicate 256 (o i) }) ((ap₂ (λ (l : List ℕ) (k : ℕ). set (set (set l 0 n) 1 n) 8 k) r u ∙ ap (λ (l : List ℕ). n ∷ n ∷ 0 ∷ 0 ∷ 0 ∷ 0 ∷ 0 ∷ 0 ∷ rule_number rule ∷ 0 ∷ l) (sym keys)) i) ((w ∙ all_free 0 256) i)
 
 pub rule_of : {s t : Held} → s ≡ t → Ruled t → Ruled s
 rule_of e r = subst Ruled (sym e) r
@@ -96,14 +90,6 @@ pub both : (a b : Bool) → (a && b) ≡ true → (a ≡ true) × (b ≡ true)
 both true b h = (refl, h)
 both false b h = absurd (omega (arith, ap {B = ℕ} (λ (c : Bool). cond c 1 0) h))
 
-small_by : (top : ℕ) (b : Bool) (t d : ℕ × ℕ) → t.0 ≤ top → d.0 ≤ top → (cond b t d).0 ≤ top
-small_by top true t d h g = h
-small_by top false t d h g = g
-
-small : (top : ℕ) (ts : List Test) → few top ts ≡ true → (decided ts).0 ≤ top
-small top [] h = omega arith
-small top (t ∷ ts) h = let b = both (leb t.1.0 top) (few top ts) h in small_by top t.0 t.1 (decided ts) (leb-true t.1.0 top b.0) (small top ts b.1)
-
 few_more : (top : ℕ) (xs ys : List Test) → few top xs ≡ true → few top ys ≡ true → few top (xs ++ ys) ≡ true
 few_more top [] ys h g = g
 few_more top (x ∷ xs) ys h g = let b = both (leb x.1.0 top) (few top xs) h in ap₂ ◌&&◌ b.0 (few_more top xs ys b.1 g)
@@ -112,7 +98,7 @@ few_unless : (top : ℕ) (b : Bool) (ts : List Test) → few top ts ≡ true →
 few_unless top true ts h = refl
 few_unless top false ts h = h
 
--- 1 to 8 without a session, and 1 to 10 with one
+-- 1 to 8 without a session
 packet_few : (top : ℕ) (s : List ℕ) → few top (header_tests s) ≡ true → few top (body_tests (walk_from (header_in s).messages 12 s) (header_in s).seq (header_in s).messages) ≡ true → few top (packet_tests s) ≡ true
 unfolding packet_tests
 packet_few top s h g =
@@ -122,13 +108,6 @@ packet_few top s h g =
 pub packet_small : (s : List ℕ) → few 8 (packet_tests s) ≡ true
 unfolding header_tests flag_tests body_tests
 packet_small s = packet_few 8 s refl refl
-
-pub refusal_small : (x : Meaning) (s : List ℕ) → refusal_of x s ≤ 10
-unfolding take_tests header_tests flag_tests body_tests
-refusal_small x s =
-    small 10 (take_tests x s)
-    (few_more 10 (packet_tests s) (unless_heartbeat (header.heartbeat (header_in s).flag) (wait_tests x s)) (packet_few 10 s refl refl)
-    (few_unless 10 (header.heartbeat (header_in s).flag) (wait_tests x s) refl))
 
 pub one_packet : (s : List ℕ) → packets_from true 1 0 s ≡ s ∷ []
 unfolding packets_from
@@ -148,23 +127,22 @@ module _ (x : Meaning) (s : List ℕ) {l : List ℕ} (rows : l ≡ splice (0 ∷
   unfolding splice rows_of apply_up_to
   four = rows ∙ ap (λ (ps : List (List ℕ)). splice (0 ∷ 0 ∷ 0 ∷ 0 ∷ []) 0 (rows_of x ps)) (one_packet s)
 
-  pub told_refusal : get_or l 1 0 ≤ 255
-  told_refusal = subst (λ (k : List ℕ). get_or k 1 0 ≤ 255) (sym four) (omega (arith, refusal_small x s))
+  pub told_refusal : get_or l 1 0 ≤ 14
+  told_refusal = subst (λ (k : List ℕ). get_or k 1 0 ≤ 14) (sym four) (test_most x s)
 
   pub taken_is : {after : Held} → after ≡ rep (take_all overnight (apply_up_to feed 0 x) (packets_from true 1 0 s)) → after ≡ rep (take_one overnight x s)
   unfolding take_all apply_up_to
   taken_is e = e ∙ ap (λ (ps : List (List ℕ)). rep (take_all overnight x ps)) (one_packet s)
 
-  pub answer_is : {answer : Answer} → answer ≡ answered (get_or l 0 0) (get_or l 1 0) → answer ≡ answer_of x s
-  answer_is e = e ∙ ap (λ (k : List ℕ). answered (get_or k 0 0) (get_or k 1 0)) four
+  pub answer_is : {answer : Result ℕ Refusal} → answer ≡ answered (get_or l 1 0) (get_or l 0 0) → answer ≡ answer_of x s
+  answer_is e = e ∙ ap (λ (k : List ℕ). answered (get_or k 1 0) (get_or k 0 0)) four
 
-pub answer_none : (applied refusal : ℕ) → refusal ≡ 0 → Applied applied ≡ answered applied refusal
-unfolding answered
-answer_none applied refusal e = sym (ap (λ (b : Bool). cond b (Applied applied) (Refused refusal)) (eq-eqb refusal 0 e))
+-- by its number a refusal is told, and 0 is none
+pub answer_some : (applied number : ℕ) {refusal : Refusal} → number_of refusal ≡ number → Err refusal ≡ answered number applied
+answer_some applied number {refusal} e = sym (answered_err applied refusal) ∙ ap (λ (n : ℕ). answered n applied) e
 
-pub answer_some : (applied refusal : ℕ) → (refusal ≡ 0 → ⊥) → Refused refusal ≡ answered applied refusal
-unfolding answered
-answer_some applied refusal e = sym (ap (λ (b : Bool). cond b (Applied applied) (Refused refusal)) (ne_eqb refusal 0 e))
+pub answer_none : (applied number : ℕ) → number ≡ 0 → Ok applied ≡ answered number applied
+answer_none applied number e = sym (ap (λ (n : ℕ). answered n applied) e)
 
 -- ---- a burst
 
@@ -216,13 +194,13 @@ module _ (x : Meaning) (s : List ℕ) (answers : List ℕ) (most : ℕ) {fits : 
   unfolding answers_after rows_of packets_from apply_up_to
   rows_are is = is ∙ chosen (λ (n : ℕ). splice answers 0 (rows_of x (packets_in n s))) (splice-none answers 0)
 
-  pub count-is : {taken : ℕ} {told : Count} → taken ≡ length (packets_in due s) → told ≡ count_if fits taken → told ≡ count_of s most (length answers)
+  pub count-is : {taken : ℕ} {told : Result ℕ Refusal} → taken ≡ length (packets_in due s) → told ≡ count_if fits taken → told ≡ count_of s most (length answers)
   unfolding count_of
   count-is {taken} {told} is counts = go fits refl
     where
-      go : (b : Bool) → fits ≡ b → told ≡ cond (ltb (length answers) (4 * most)) (count.Refused 11) (count.Packets (length (packets_in most s)))
-      go true e = counts ∙ (λ i. count_if (e i) (is i)) ∙ ap (λ (n : ℕ). count.Packets (length (packets_in n s))) (due_by true e) ∙ sym (ap (λ (b : Bool). cond b (count.Refused 11) (count.Packets (length (packets_in most s)))) (short ∙ ap not e))
-      go false e = counts ∙ ap (λ (b : Bool). count_if b taken) e ∙ sym (ap (λ (b : Bool). cond b (count.Refused 11) (count.Packets (length (packets_in most s)))) (short ∙ ap not e))
+      go : (b : Bool) → fits ≡ b → told ≡ cond (ltb (length answers) (4 * most)) (Err NoRoom) (Ok (length (packets_in most s)))
+      go true e = counts ∙ (λ i. count_if (e i) (is i)) ∙ ap (λ (n : ℕ). Ok (length (packets_in n s))) (due_by true e) ∙ sym (ap (λ (b : Bool). cond b (Err NoRoom) (Ok (length (packets_in most s)))) (short ∙ ap not e))
+      go false e = counts ∙ ap (λ (b : Bool). count_if b taken) e ∙ sym (ap (λ (b : Bool). cond b (Err NoRoom) (Ok (length (packets_in most s)))) (short ∙ ap not e))
 
 pub rule_packets : {session : Held} → Ruled session → (single : Bool) (s : List ℕ) (n : ℕ) → Bytes s → {after : Held} → after ≡ rep (take_all overnight (apply_up_to feed 0 (view session)) (packets_from single n 0 s)) → Ruled after
 unfolding apply_up_to

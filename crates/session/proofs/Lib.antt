@@ -4,7 +4,6 @@ pub mod Through
 pub mod Dispatch
 pub mod Runs
 pub mod Engine
-pub mod Cleared
 pub mod Calls
 pub mod Answers
 pub mod Ten

@@ -9,25 +9,26 @@ use native.Mathlib.Omega.{arith}
 use borrow.Author.Tests.{le-ltb}
 use lib.Dec.{ltb}
 use lib.ListN.{length, drop}
+use Rattle.std.specs.Prelude.{Result, Ok, Err}
+use Rattle.refusals.specs.declared.Refusal.{Refusal}
+use Rattle.refusals.specs.declared.Refusal.TheVariants.{NoRoom}
 use Rattle.merge.specs.State.{take_all}
 use Rattle.window_taking.specs.Turns.{end_from, packets_in}
 use Rattle.window_taking.proofs.Following.{end_within, packets_most, packets_onward}
 use Rattle.session.specs.Meaning.{Meaning, overnight}
 use Rattle.session.specs.Bursts.{burst_of, bytes_of, count_of}
-use Rattle.session.specs.declared.packets.Count.{Count}
-use Rattle.session.specs.declared.packets.Count.TheVariants as count
 use Rattle.session.proofs.States.{take_more}
 
 module _ (s : List ℕ) (most room : ℕ) where
-  told : Count → ℕ
-  told (count.Packets n) = n
-  told (count.Refused n) = 0
+  told : Result ℕ Refusal → ℕ
+  told (Ok n) = n
+  told (Err refusal) = 0
 
-  pub burst_most : {n : ℕ} → count.Packets n ≡ count_of s most room → n ≤ most
+  pub burst_most : {n : ℕ} → Ok n ≡ count_of s most room → n ≤ most
   unfolding count_of told
   burst_most {n} e = omega (arith, ap told e, go (ltb room (4 * most)))
     where
-      go : (b : Bool) → told (cond b (count.Refused 11) (count.Packets (length (packets_in most s)))) ≤ most
+      go : (b : Bool) → told (cond b (Err NoRoom) (Ok (length (packets_in most s)))) ≤ most
       go true = omega arith
       go false = packets_most false most 0 s
 

@@ -13,6 +13,10 @@ use borrow.Author.Tests.{eq-eqb, eqb-false, ne_eqb}
 use lib.Dec.{eqb}
 use lib.ListN.{length, take, set}
 use lib.Seq.{length-take-le}
+use Rattle.std.specs.Prelude.{Result, Ok, Err, Option as Maybe, Some, None}
+use Rattle.refusals.specs.Refusals.{refusal_or_none}
+use Rattle.refusals.specs.declared.Refusal.{Refusal}
+use Rattle.refusals.proofs.Numbers.{some_number}
 use Rattle.wire.specs.Number.{Bytes, part, splice}
 use Rattle.wire.proofs.Place.{length-splice, part_bytes, splice_next, splice-none}
 use Rattle.merge.specs.State as merge
@@ -42,17 +46,18 @@ use Rattle.session_message.specs.declared.PacketRest.{PacketRest}
 use Rattle.session_message.proofs.Choices.{freed-packet, freed_window, message_packet, message_window, onward_packet, onward_window, size_packet, size_window, text-packet, text_window}
 use Rattle.window_taking.specs.Keeping.{Known, Neat, admitted_of, count_of, held_by, kept_by, starts_at, state_of, straight_in, waiting_of, window_for}
 use Rattle.window_taking.specs.Taking.{judge, packet_in, take_tests}
-use Rattle.window_taking.specs.Turns.{Closes, Follows, Lies, answer_if, at_start, behind, closing, done_in, end_from, frame_at, from_by, length_at, packet_at, packets_from, place_after, place_if, turn_of}
+use Rattle.window_taking.specs.Turns.{Closes, Follows, Lies, answer_if, at_start, behind, closing, direct_by, done_in, end_by, end_from, frame_at, from_by, length_at, packet_at, packets_from, place_after, place_if, refused_by, turn_of}
+use Rattle.window_taking.specs.declared.admitting.Admitted.{Admitted}
 use Rattle.window_taking.specs.declared.burst.Turn.{Turn}
 use Rattle.window_taking.specs.Ahead.{Ahead, freed}
 use Rattle.window_taking.proofs.Accepted.{judged, overnight-judged}
 use Rattle.window_taking.proofs.Ahead.{ahead_of, level_of, starts_of}
+use Rattle.window_taking.proofs.Answered.{direct_told, end_told, refused_told}
 use Rattle.window_taking.proofs.Following.{Another, Ended, another, ended}
 use Rattle.window_taking.proofs.Windows.{fine, in_places, place_free, place_used, placed, same_window, waiting_for, waits_place, window_size}
 use Rattle.session.specs.Meaning.{Held, Meaning, end_in, feed, held, next_in, overnight, rep, Ruled}
 use Rattle.session.specs.Bursts.{Runs, refusal_of, row_with, rows_of}
-use Rattle.session.specs.Engine.{Going, Good, NamedAt, Open, Over, PutAt, Task, Touched, Waits, at_hand_of, between_of, finish, rest_of, rows_from, task_of, turns_left}
-use Rattle.session.specs.declared.advancing.Point.{Point}
+use Rattle.session.specs.Engine.{Going, Good, NamedAt, Open, Over, PutAt, Task, Touched, Waits, at_hand_of, between_of, finish, hand_of, rest_of, rows_from, task_of, turns_left}
 use Rattle.session.specs.declared.touching.Touch.{Touch}
 use Rattle.session.proofs.States.{Stands, good_kept, good_step, kept, meaning, neat, ready, stands, waits-below, within}
 
@@ -104,17 +109,21 @@ module _ (x : Meaning) {w : List ℕ} {next end : ℕ} (g : Good x) (window : w 
       let waits : waiting_of w next ≡ x.waiting = ap₂ waiting_of window at ∙ waiting_for (within g) in
       λ i. record { next = at i; end = ends i; waiting = waits i; tables = tt }
 
-  pub state_refusal : (admitted_of true (state_of w next end) p).refusal ≡ refusal_of x p
-  unfolding admitted_of
-  state_refusal = ap (λ (z : merge.State (List ℕ) (Unit {0})). (decided (take_tests z p)).0) as_state ∙ bare_refusal x p
+  pub state_refusal : refusal_or_none (refused_by (admitted_of true (state_of w next end) p)) ≡ refusal_of x p
+  state_refusal = refused_told true (state_of w next end) p ∙ ap (λ (z : merge.State (List ℕ) (Unit {0})). (decided (take_tests z p)).0) as_state ∙ bare_refusal x p
 
-  pub state_end : (admitted_of true (state_of w next end) p).end ≡ (kept_by x p).end
-  unfolding admitted_of
-  state_end = ap (λ (z : merge.State (List ℕ) (Unit {0})). (kept_by z p).end) as_state ∙ ap (λ (o : Option (Packet (List ℕ))). (kept_if (bare x) o).end) (bare-judge x p) ∙ (bare_if x (judge x p)).1
+  pub state_end : end_by end (admitted_of true (state_of w next end) p) ≡ (kept_by x p).end
+  state_end =
+      end_told true (state_of w next end) p
+      ∙ ap (λ (z : merge.State (List ℕ) (Unit {0})). (kept_by z p).end) as_state
+      ∙ ap (λ (o : Option (Packet (List ℕ))). (kept_if (bare x) o).end) (bare-judge x p)
+      ∙ (bare_if x (judge x p)).1
 
-  state_direct : (admitted_of true (state_of w next end) p).direct ≡ cond (straight_in x p) (count_of (judge x p)) 0
-  unfolding admitted_of
-  state_direct = ap (λ (z : merge.State (List ℕ) (Unit {0})). cond (straight_in z p) (count_of (judge z p)) 0) as_state ∙ (λ i. cond (bare_straight x p i) (count_of (bare-judge x p i)) 0)
+  state_direct : direct_by (admitted_of true (state_of w next end) p) ≡ cond (straight_in x p) (count_of (judge x p)) 0
+  state_direct =
+      direct_told true (state_of w next end) p
+      ∙ ap (λ (z : merge.State (List ℕ) (Unit {0})). cond (straight_in z p) (count_of (judge z p)) 0) as_state
+      ∙ (λ i. cond (bare_straight x p i) (count_of (bare-judge x p i)) 0)
 
   pub state_held : (held_by true (state_of w next end) p).waiting ≡ (held_by true x p).waiting
   state_held = ap (λ (z : merge.State (List ℕ) (Unit {0})). (held_by true z p).waiting) as_state ∙ bare-held x p
@@ -128,6 +137,15 @@ module _ (x : Meaning) {w : List ℕ} {next end : ℕ} (g : Good x) (window : w 
       }
 
 -- ---- where the engine is
+
+-- where no message is applied straight from the packet, those that wait are due behind one that is taken
+from_nothing : (a : Result Admitted Refusal) (begin : ℕ) → direct_by a ≡ 0 → from_by a begin ≡ cond (eqb (refusal_or_none (refused_by a)) 0) 256 0
+from_nothing (Ok admitted) begin e = ap (λ (n : ℕ). cond (eqb n 0) 256 begin) e
+from_nothing (Err refusal) begin e = sym (ap (λ (b : Bool). cond b 256 0) (some_number refusal))
+
+from_something : (a : Result Admitted Refusal) (begin : ℕ) → (direct_by a ≡ 0 → ⊥) → from_by a begin ≡ begin
+from_something (Ok admitted) begin n = ap (λ (b : Bool). cond b 256 begin) (ne_eqb admitted.direct 0 n)
+from_something (Err refusal) begin n = absurd (n refl)
 
 none_direct : (b : Bool) (o : Option (Packet (List ℕ))) → o ≡ none → cond b (count_of o) 0 ≡ 0
 none_direct true o e = ap count_of e
@@ -192,24 +210,23 @@ module _ (task : Task) (x : Meaning) (s : List ℕ) (single : Bool) (answers : L
   from_is : turn.from ≡ from_by (admitted_of true (state_of w next end) (packet_at single s at)) ((frame_at single s at).start + min (frame_at single s at).size 12)
   from_is = ap (λ (t : Turn). t.from) turned
 
-  refusal_is : turn.refusal ≡ refusal_of x (packet_at single s at)
-  refusal_is = ap (λ (t : Turn). t.refusal) turned ∙ state_refusal x g window nexts ends (packet_at single s at)
+  refusal_is : refusal_or_none turn.refusal ≡ refusal_of x (packet_at single s at)
+  refusal_is = ap (λ (t : Turn). refusal_or_none t.refusal) turned ∙ state_refusal x g window nexts ends (packet_at single s at)
 
   -- what is due behind the packet: its own messages, where they are applied straight from it; else all that wait, or none where it is
   -- refused
-  from_none : turn.direct ≡ 0 → turn.from ≡ cond (eqb turn.refusal 0) 256 0
+  from_none : turn.direct ≡ 0 → turn.from ≡ cond (eqb (refusal_or_none turn.refusal) 0) 256 0
   from_none e =
       from_is
-      ∙ ap (λ (n : ℕ). cond (eqb n 0) (cond (eqb (admitted_of true (state_of w next end) (packet_at single s at)).refusal 0) 256 0) ((frame_at single s at).start + min (frame_at single s at).size 12)) (sym (ap (λ (t : Turn). t.direct) turned) ∙ e)
-      ∙ ap (λ (n : ℕ). cond (eqb n 0) 256 0) (sym (ap (λ (t : Turn). t.refusal) turned))
+      ∙ from_nothing (admitted_of true (state_of w next end) (packet_at single s at)) ((frame_at single s at).start + min (frame_at single s at).size 12) (sym (ap (λ (t : Turn). t.direct) turned) ∙ e)
+      ∙ ap (λ (n : ℕ). cond (eqb n 0) 256 0) (sym (ap (λ (t : Turn). refusal_or_none t.refusal) turned))
 
   from_some : (turn.direct ≡ 0 → ⊥) → turn.from ≡ (frame_at single s at).start + min (frame_at single s at).size 12
   from_some n =
       from_is
-      ∙ ap (λ (b : Bool). cond b (cond (eqb (admitted_of true (state_of w next end) (packet_at single s at)).refusal 0) 256 0) ((frame_at single s at).start + min (frame_at single s at).size 12))
-      (ne_eqb (admitted_of true (state_of w next end) (packet_at single s at)).direct 0 (λ e. n (ap (λ (t : Turn). t.direct) turned ∙ e)))
+      ∙ from_something (admitted_of true (state_of w next end) (packet_at single s at)) ((frame_at single s at).start + min (frame_at single s at).size 12) (λ e. n (ap (λ (t : Turn). t.direct) turned ∙ e))
 
-  due_none : turn.direct ≡ 0 → due_of (record { left = turn.direct; from = turn.from }) ≡ cond (eqb turn.refusal 0) 256 0
+  due_none : turn.direct ≡ 0 → due_of (record { left = turn.direct; from = turn.from }) ≡ cond (eqb (refusal_or_none turn.refusal) 0) 256 0
   due_none e = ap (λ (b : Bool). cond b turn.from turn.direct) (eq-eqb turn.direct 0 e) ∙ from_none e
 
   due_some : (turn.direct ≡ 0 → ⊥) → due_of (record { left = turn.direct; from = turn.from }) ≡ turn.direct
@@ -225,7 +242,7 @@ module _ (task : Task) (x : Meaning) (s : List ℕ) (single : Bool) (answers : L
   unfolding take_one take_if kept_if apply_up_to
   due_by none e =
       let nothing : turn.direct ≡ 0 = direct_is ∙ none_direct (straight_in x (packet_at single s at)) (judge x (packet_at single s at)) e in
-      let no : eqb turn.refusal 0 ≡ false = ap (λ (n : ℕ). eqb n 0) refusal_is ∙ refused-not x (packet_at single s at) e in
+      let no : eqb (refusal_or_none turn.refusal) 0 ≡ false = ap (λ (n : ℕ). eqb n 0) refusal_is ∙ refused-not x (packet_at single s at) e in
       let due : due_of (record { left = turn.direct; from = turn.from }) ≡ 0 = due_none nothing ∙ ap (λ (b : Bool). cond b 256 0) no in
       record {
         is = ap (take_if overnight x) e ∙ sym (ap₂ (apply_up_to feed) due (ap (kept_if x) e));
@@ -239,7 +256,7 @@ module _ (task : Task) (x : Meaning) (s : List ℕ) (single : Bool) (answers : L
 
       waits : turn.direct ≡ 0 → Due
       waits nothing =
-          let yes : eqb turn.refusal 0 ≡ true = ap (λ (n : ℕ). eqb n 0) refusal_is ∙ accepted-not x (packet_at single s at) e in
+          let yes : eqb (refusal_or_none turn.refusal) 0 ≡ true = ap (λ (n : ℕ). eqb n 0) refusal_is ∙ accepted-not x (packet_at single s at) e in
           let due : due_of (record { left = turn.direct; from = turn.from }) ≡ 256 = due_none nothing ∙ ap (λ (b : Bool). cond b 256 0) yes in
           record { is = taken_is ∙ ap (λ (n : ℕ). apply_up_to feed n (kept_by x (packet_at single s at))) (sym due); few = omega (arith, due); level = λ some-straight. absurd (some-straight nothing) }
 
@@ -295,7 +312,7 @@ module _ (task : Task) (x : Meaning) (s : List ℕ) (single : Bool) (answers : L
       let before : turn.before ≡ next = ap (λ (t : Turn). t.before) turned in
       let kn = kept_next x (judge x (packet_at single s at)) in
       let begun : turn.begun ≡ true = ap (λ (t : Turn). t.begun) turned in
-      let refusal : turn.refusal ≡ refusal_of x (packet_at single s at) = refusal_is in
+      let refusal : refusal_or_none turn.refusal ≡ refusal_of x (packet_at single s at) = refusal_is in
       let lefts : left ≡ turn.left = sym (ap (λ (t : Turn). t.left) turned) in
       let ats : behind single s at ≡ turn.at = sym (ap (λ (t : Turn). t.at) turned) in
       let rests : packets_from single left (behind single s at) s ≡ rest_of single s turn = λ i. packets_from single (lefts i) (ats i) s in
@@ -432,13 +449,13 @@ module _ {task : Task} {s : List ℕ} {single : Bool} {answers : List ℕ} {os :
           (λ e. ap (λ (n : ℕ). apply_up_to feed n o.state) (due_window rest none_left ∙ e))
           (λ n. stuck feed (due_of rest) (front n))
 
-      closed : closing turn next ≡ answer_if turn.begun (row_with turn.before turn.refusal o.state)
-      closed = λ i. answer_if turn.begun ((o.at i - turn.before) ∷ turn.refusal ∷ o.at i ∷ o.end i ∷ [])
+      closed : closing turn next ≡ answer_if turn.begun (row_with turn.before (refusal_or_none turn.refusal) o.state)
+      closed = λ i. answer_if turn.begun ((o.at i - turn.before) ∷ refusal_or_none turn.refusal ∷ o.at i ∷ o.end i ∷ [])
 
       row_long : turn.place + length (closing turn next) ≡ place_after turn
       row_long = go turn.begun
         where
-          go : (begun : Bool) → turn.place + length (answer_if begun ((next - turn.before) ∷ turn.refusal ∷ next ∷ turn.end ∷ [])) ≡ place_if begun turn.place
+          go : (begun : Bool) → turn.place + length (answer_if begun ((next - turn.before) ∷ refusal_or_none turn.refusal ∷ next ∷ turn.end ∷ [])) ≡ place_if begun turn.place
           go true = refl
           go false = omega arith
 
@@ -733,54 +750,52 @@ module _ {task : Task} {s : List ℕ} {single : Bool} {answers : List ℕ} {os :
           }
 
       -- it is done but for what it leaves to do in the order table
-      module _ {numbers' w' : List ℕ} {rest' : PacketRest} {r : Touch} {bytes : List ℕ} (is : bytes ≡ m) (done : Touched numbers' task.next task.end tabled next bytes r)
+      module _ {numbers' w' : List ℕ} {rest' : PacketRest} {r : Maybe Touch} {bytes : List ℕ} (is : bytes ≡ m) (done : Touched numbers' task.next task.end tabled next bytes r)
           (clear : w' ≡ window_after w rest (next % 256)) (on : rest' ≡ onward_of rest size) (space : length answers ≡ task.space) where
         touched : Touched numbers' task.next task.end tabled next m r
         touched = subst (λ (l : List ℕ). Touched numbers' task.next task.end tabled next l r) is done
 
-        abbrev at_hand : Point
-        at_hand = at_hand_of r rest size (next + 1) turn rest'
+        module _ (touch : Touch) (some-order : r ≡ Some touch) where
+          goes_on : {os' : List Order} {rooms : List ℕ} → os' ≡ (after tabled next m).orders → rooms ≡ room_of task.next task.end (after tabled next m)
+              → Going task s single os' rooms w' answers text' (at_hand_of touch rest size (next + 1) turn rest')
+          goes_on orders housed = record { now = applied orders housed clear on; wide = wider; long = space }
 
-        goes_on : {os' : List Order} {rooms : List ℕ} → os' ≡ (after tabled next m).orders → rooms ≡ room_of task.next task.end (after tabled next m)
-            → Going task s single os' rooms w' answers text' at_hand
-        goes_on orders housed = record { now = applied orders housed clear on; wide = wider; long = space }
+          place_within : touch.place < 256
+          place_within =
+              by_cases (ℕ_discrete (type_in m) 21)
+              (λ e. (touched.adds touch some-order e).within)
+              (λ n. found_within tabled.keys tabled.live (named_in tabled m).key (kept o.good).live refl (touched.names touch some-order n).place_is)
 
-        place_within : r.touches ≡ true → r.place < 256
-        place_within some-order =
-            by_cases (ℕ_discrete (type_in m) 21)
-            (λ e. (touched.adds some-order e).within)
-            (λ n. found_within tabled.keys tabled.live (named_in tabled m).key (kept o.good).live refl (touched.names some-order n).place_is)
+          pub waits_so : Waits task s single os numbers' w' answers text' (at_hand_of touch rest size (next + 1) turn rest') (hand_of touch rest size)
+          waits_so =
+              record {
+                whole = whole;
+                lies = lies;
+                cut = cut;
+                wide = wider;
+                many = orders_long;
+                within = place_within;
+                puts =
+                    λ e.
+                    let a : PutAt numbers' task.next task.end tabled next m touch = touched.adds touch some-order e in
+                    record { naming = a.naming; going = goes_on (ap (λ (l : List Order). set l touch.place (order_of (fields_of 21 m))) o.orders ∙ sym a.orders) a.is };
+                names =
+                    λ n.
+                    let a : NamedAt numbers' task.next task.end tabled m touch = touched.names touch some-order n in
+                    record {
+                      tables = tabled;
+                      number = next;
+                      behind = refl;
+                      kind = a.kind;
+                      houses = record { ready = houses.ready; is = a.is };
+                      orders = o.orders;
+                      named = a.name;
+                      place_is = a.place_is;
+                      going = goes_on;
+                    };
+              }
 
-        pub waits_so : r.touches ≡ true → Waits task s single os numbers' w' answers text' (at_hand_of r rest size (next + 1) turn rest')
-        waits_so some-order =
-            record {
-              whole = whole;
-              lies = lies;
-              cut = cut;
-              wide = wider;
-              many = orders_long;
-              within = place_within some-order;
-              puts =
-                  λ e.
-                  let a : PutAt numbers' task.next task.end tabled next m r = touched.adds some-order e in
-                  record { naming = a.naming; going = goes_on (ap (λ (l : List Order). set l r.place (order_of (fields_of 21 m))) o.orders ∙ sym a.orders) a.is };
-              names =
-                  λ n.
-                  let a : NamedAt numbers' task.next task.end tabled m r = touched.names some-order n in
-                  record {
-                    tables = tabled;
-                    number = next;
-                    behind = refl;
-                    kind = a.kind;
-                    houses = record { ready = houses.ready; is = a.is };
-                    orders = o.orders;
-                    named = a.name;
-                    place_is = a.place_is;
-                    going = goes_on;
-                  };
-            }
-
-        pub passes_so : r.touches ≡ false → Going task s single os numbers' w' answers text' (between_of (next + 1) turn rest')
+        pub passes_so : r ≡ None → Going task s single os numbers' w' answers text' (between_of (next + 1) turn rest')
         passes_so none-touched =
             record { now = applied (o.orders ∙ sym (touched.passes none-touched).orders) (touched.passes none-touched).is clear on; wide = wider; long = space }
 
@@ -827,7 +842,7 @@ module _ {session : Held} (rule : Ruled session) (s : List ℕ) (single : Bool) 
         session = (λ i. take_all overnight (apply_up_to feed due (meaning h i)) (packets i));
         rows =
             (λ i. splice answers 0 (rows_of (apply_up_to feed due (meaning h i)) (packets i)))
-            ∙ (λ i. splice answers (sym (ap (λ (t : Turn). t.place) turned) i) (answer_if (sym (ap (λ (t : Turn). t.begun) turned) i) (row_with turn.before turn.refusal (apply_up_to feed due x)) ++ rows_of (apply_up_to feed due x) (rest_of single s turn)));
+            ∙ (λ i. splice answers (sym (ap (λ (t : Turn). t.place) turned) i) (answer_if (sym (ap (λ (t : Turn). t.begun) turned) i) (row_with turn.before (refusal_or_none turn.refusal) (apply_up_to feed due x)) ++ rows_of (apply_up_to feed due x) (rest_of single s turn)));
         room = subst (λ (t : Turn). place_after t + 4 * t.left ≤ length answers) (sym turned) (omega (arith, runs.room));
         big = runs.big;
       }

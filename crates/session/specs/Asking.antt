@@ -1,6 +1,6 @@
 -- Document 01, "Asking and writing": what is missing, and the requests for it; document 02, T-06: the lowest number not carried.
 -- Assumes nothing.
-use Rattle.std.specs.Prelude.{Bool, true, false, List, ℕ, ◌+◌, ◌-◌, max, min}
+use Rattle.std.specs.Prelude.{Bool, true, false, List, ℕ, ◌-◌, max, min}
 use Rattle.std.proofs.Math.Option.{Option, none, some}
 use Rattle.window.specs.Runs.{limit_of, run_from, runs_of}
 use Rattle.window.specs.declared.missing.Gap.{Gap}

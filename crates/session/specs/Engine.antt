@@ -73,14 +73,11 @@ between_of next turn rest = record { at_hand = None; next = next; turn = turn; r
 abbrev pub begin_of : ℕ → ℕ → ℕ → ℕ → Point
 begin_of next end count due = between_of next (at_start next end count) (record { left = 0; from = due })
 
+abbrev pub hand_of : Touch → PacketRest → ℕ → AtHand
+hand_of touch here size = record { place = touch.place; name = touch.name; here = here; size = size }
+
 abbrev pub at_hand_of : Touch → PacketRest → ℕ → ℕ → Turn → PacketRest → Point
-at_hand_of touch here size next turn rest =
-    record {
-      at_hand = Some (record { place = touch.place; name = touch.name; here = here; size = size });
-      next = next;
-      turn = turn;
-      rest = rest;
-    }
+at_hand_of touch here size next turn rest = record { at_hand = Some (hand_of touch here size); next = next; turn = turn; rest = rest }
 
 -- what is due is applied
 abbrev pub finish : Meaning → PacketRest → Meaning

@@ -95,12 +95,7 @@ pub fn order(session: Session, room: &Room, id: [u8; 14]) -> Result<Order, Refus
     Ok(session.orders[place])
 }
 
-pub fn best(
-    session: Session,
-    room: &Room,
-    symbol: [u8; 14],
-    side: u8,
-) -> Result<Level, Refusal>
+pub fn best(session: Session, room: &Room, symbol: [u8; 14], side: u8) -> Result<Level, Refusal>
     requires { (window : List ℕ) × Ruled (held session room.now window) }
     ensures { result ≡ best_asked (tables_in session room.now) symbol side }
 {

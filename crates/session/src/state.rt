@@ -2,6 +2,7 @@
 ghost use Rattle.std.specs.Prelude.{◌≡◌};
 ghost use Rattle.merge.specs.State.{opened};
 ghost use Rattle.book.specs.Tables.{fresh};
+ghost use Rattle.book_room.specs.Room.{rule_number};
 ghost use Rattle.session.specs.Meaning.{held, rep, Ruled, Sized};
 
 use book::tables;
@@ -55,12 +56,19 @@ impl Session {
         room.fill(0);
         room[room::NEXT] = first;
         room[room::END] = first;
-        match rule {
-            OpeningRule::Default => {}
-            OpeningRule::Strict => room[room::RULE] = 1,
-        }
+        room[room::RULE] = rule_number(rule);
         Session {
             orders: [order; Self::ORDERS],
         }
+    }
+}
+
+// The rule as it stands in the room.
+fn rule_number(rule: OpeningRule) -> u64
+    ensures { result ≡ rule_number rule }
+{
+    match rule {
+        OpeningRule::Default => 0,
+        OpeningRule::Strict => 1,
     }
 }

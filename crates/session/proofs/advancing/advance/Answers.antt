@@ -1,7 +1,7 @@
 -- The engine until a message touches an order: each turn of the loop is one step of the definition.
 -- Assumes nothing.
 use mathlib.Core.Path.{◌≡◌, ap, ◌∙◌, sym, subst}
-use Prim.Native.Nat.{ℕ, ◌+◌, ◌-◌, ◌<◌}
+use Prim.Native.Nat.{ℕ, ◌+◌, ◌<◌}
 use native.Mathlib.Nat.{mod-lt}
 use native.Mathlib.Omega.{arith}
 use Rattle.window_taking.specs.declared.burst.Turn.{Turn}
@@ -113,19 +113,19 @@ overflow_add-next c =
     let g = c.loop-here.invariant.all _ _ (from_between c.requires.2) in
     omega (arith, (here g.now c.size-size.ensures c.if-size-eq0.false c.loop-here.text g.wide c.fetch.ensures).below)
 
-pub shape_of-answers-then-touched : goal.shape_of-answers-then-touched
-shape_of-answers-then-touched c = (c.loop-here.invariant.all _ _ (from_between c.requires.2)).long ∙ sym c.requires.2.long
+pub shape_of-answers-in-Some : goal.shape_of-answers-in-Some
+shape_of-answers-in-Some c = (c.loop-here.invariant.all _ _ (from_between c.requires.2)).long ∙ sym c.requires.2.long
 
-pub returns-then-touched : goal.returns-then-touched
-returns-then-touched c t os g₀ =
+pub returns-in-Some : goal.returns-in-Some
+returns-in-Some c t os g₀ =
     let g = c.loop-here.invariant.all _ _ (from_between c.requires.2) in
     let on = fewer c.loop-here.turn c.loop-here.next c.size-size.result c.loop-here.rest c.onward-rest.ensures (here g.now c.size-size.ensures c.if-size-eq0.false c.loop-here.text g.wide c.fetch.ensures).fewer in
     let is = c.loop-here.invariant.all t os (from_between g₀) in
     let told = c.size-size.ensures in
     let some = c.if-size-eq0.false in
     let housed = houses_read is.now told some c.loop-here.text is.wide c.fetch.ensures c.message-bytes.ensures in
-    came_waits c.apply-touched.result c.at_hand.ensures
-    (waits_so is.now told some c.loop-here.text is.wide c.fetch.ensures c.message-bytes.ensures (c.apply-touched.ensures t.next t.end (tabled is.now) housed) c.free.ensures c.onward-rest.ensures is.long c.if-touched.true)
+    came_waits c.in-Some.touch c.at_hand.ensures
+    (waits_so is.now told some c.loop-here.text is.wide c.fetch.ensures c.message-bytes.ensures (c.apply-touched.ensures t.next t.end (tabled is.now) housed) c.free.ensures c.onward-rest.ensures is.long c.in-Some.touch c.in-Some.is)
     (omega (arith, on, c.loop-here.invariant.few))
     is.long
 
@@ -139,7 +139,7 @@ loop-here-preserved c =
           let told = c.size-size.ensures in
           let some = c.if-size-eq0.false in
           let housed = houses_read is.now told some c.loop-here.text is.wide c.fetch.ensures c.message-bytes.ensures in
-          passes_so is.now told some c.loop-here.text is.wide c.fetch.ensures c.message-bytes.ensures (c.apply-touched.ensures t.next t.end (tabled is.now) housed) c.free.ensures c.onward-rest.ensures is.long c.if-touched.false;
+          passes_so is.now told some c.loop-here.text is.wide c.fetch.ensures c.message-bytes.ensures (c.apply-touched.ensures t.next t.end (tabled is.now) housed) c.free.ensures c.onward-rest.ensures is.long c.in_default.is;
       few = omega (arith, on, c.loop-here.invariant.few);
     }
 

@@ -1,6 +1,5 @@
 -- The engine until a message touches an order: each turn of the loop is one step of the definition.
 -- Assumes nothing.
-use Prim.Native.Nat.{◌-◌}
 use Rattle.session.specs.Engine.{between_of, turns_left}
 use Rattle.session.proofs.Engine.{Onward}
 use Rattle.session.proofs.advancing.advance.Given as goal

@@ -1,8 +1,8 @@
 -- A message at hand by its type: an Add's order, or what its act comes to.
 -- Assumes nothing.
-use mathlib.Core.Path.{◌≡◌, refl, ◌∙◌, sym, subst}
+use mathlib.Core.Path.{◌≡◌, ◌∙◌, sym, subst}
 use mathlib.Core.List.{List}
-use Prim.Native.Nat.{ℕ, ◌-◌}
+use Prim.Native.Nat.{ℕ}
 use native.Mathlib.Omega.{arith}
 use Rattle.message.specs.Layouts.{type_in}
 use Rattle.message.specs.Whole.{Whole}
@@ -25,12 +25,12 @@ u8_at-kind-requires c = omega (arith, (subst Whole (sym c.message-bytes.ensures)
 
 pub order_of-requires : goal.order_of-requires
 order_of-requires c =
-    subst (λ (l : List ℕ). Naming 55 l c.args.point.name.key) (sym c.message-bytes.ensures)
+    subst (λ (l : List ℕ). Naming 55 l c.args.hand.name.key) (sym c.message-bytes.ensures)
     (puts c.requires.5 c.message-bytes.ensures (of_kind c.message-bytes.result.now c.u8_at-kind.ensures c.if-kind-eq21.true)).naming
 
 pub returns-then-kind-eq21 : goal.returns-then-kind-eq21
 returns-then-kind-eq21 c t single os window answers h =
-    settled_put h c.message-bytes.ensures (of_kind c.message-bytes.result.now c.u8_at-kind.ensures c.if-kind-eq21.true) c.order_of.ensures c.stores.ensures
+    settled_put h c.message-bytes.ensures (of_kind c.message-bytes.result.now c.u8_at-kind.ensures c.if-kind-eq21.true) c.order_of.ensures
 
 -- ---- a message that names an order
 
@@ -46,19 +46,19 @@ pub returns-in-Replace : goal.returns-in-Replace
 returns-in-Replace c t single os window answers h =
     let is = c.message-bytes.ensures in
     let out = other c.message-bytes.result.now c.u8_at-kind.ensures c.if-kind-eq21.false in
-    settled_replace h is out (c.change.ensures t.next t.end (named h is out).tables (asks h is out)) c.in-Replace.is c.stores-in-Replace.ensures
+    settled_replace h is out (c.change.ensures t.next t.end (named h is out).tables (asks h is out)) c.in-Replace.is
 
 pub returns-in-Remove : goal.returns-in-Remove
 returns-in-Remove c t single os window answers h =
     let is = c.message-bytes.ensures in
     let out = other c.message-bytes.result.now c.u8_at-kind.ensures c.if-kind-eq21.false in
-    settled_remove h is out (c.change.ensures t.next t.end (named h is out).tables (asks h is out)) c.in-Remove.is refl
+    settled_remove h is out (c.change.ensures t.next t.end (named h is out).tables (asks h is out)) c.in-Remove.is
 
 pub returns-in-Nothing : goal.returns-in-Nothing
 returns-in-Nothing c t single os window answers h =
     let is = c.message-bytes.ensures in
     let out = other c.message-bytes.result.now c.u8_at-kind.ensures c.if-kind-eq21.false in
-    settled_nothing h is out (c.change.ensures t.next t.end (named h is out).tables (asks h is out)) c.in-Nothing.is c.stores-in-Nothing.ensures
+    settled_nothing h is out (c.change.ensures t.next t.end (named h is out).tables (asks h is out)) c.in-Nothing.is
 
 pub overflow_sub-point : goal.overflow_sub-point
 overflow_sub-point c =

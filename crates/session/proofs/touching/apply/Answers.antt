@@ -35,16 +35,16 @@ tell-requires c =
       by_index = c.requires;
     }
 
-pub returns-in-At : goal.returns-in-At
-returns-in-At c next end b h = touched_put (of_kind c.args.bytes.now c.u8_at-kind.ensures c.in-21.is) (c.add.ensures next end b h) c.in-At.is
+pub returns-in_err-placed-in-21 : goal.returns-in_err-placed-in-21
+returns-in_err-placed-in-21 c next end b h = rw c.from_residual.ensures (touched_none (told_add (c.add.ensures next end b h) c.in_err-placed-in-21.was))
 
-pub returns-in-Nothing : goal.returns-in-Nothing
-returns-in-Nothing c next end b h = touched_none c.none.ensures (told_add (c.add.ensures next end b h) c.in-Nothing.is)
+pub returns-in_ok-placed-in-21 : goal.returns-in_ok-placed-in-21
+returns-in_ok-placed-in-21 c next end b h = touched_put (of_kind c.args.bytes.now c.u8_at-kind.ensures c.in-21.is) (c.add.ensures next end b h) c.in_ok-placed-in-21.was
 
 pub returns-in-22 : goal.returns-in-22
 returns-in-22 c next end b h =
     let named : names (type_in c.args.bytes.now) ≡ true = naming_kind c.args.bytes.now c.u8_at-kind.ensures (omega arith) (omega arith) (omega arith) in
-    touched_named named (lying h) (c.named-name.ensures next end b (lying h)) c.place_found.ensures
+    touched_named named (lying h) (c.named-name.ensures next end b (lying h)) c.unwrap_or-place.ensures
 
 pub returns-in_default : goal.returns-in_default
-returns-in_default c next end b h = touched_none c.none-in_default.ensures (c.tell.ensures next end b h)
+returns-in_default c next end b h = touched_none (c.tell.ensures next end b h)

@@ -4,7 +4,7 @@ use Rattle.std.proofs.Common.{◌≡◌, ap, sym, ◌∙◌, rules, Result, Err,
 use Rattle.refusals.specs.declared.Refusal.{Refusal}
 use Rattle.packet.specs.declared.header.Header.{Header}
 use Rattle.single.specs.Told.{header_numbers, header_told}
-use Rattle.single.proofs.Telling.{told_all}
+use Rattle.single.proofs.Numbers.{told_all}
 use Rattle.single.proofs.headers.read.Goals as goal
 
 pub returns-clause-told : goal.returns-clause-told

@@ -3,7 +3,7 @@
 use Rattle.std.proofs.Common.{◌≡◌, ℕ, List, [], ◌∷◌, ap, sym, ◌∙◌, rules, Result, Err, MatchResult, IsOkAnd}
 use Rattle.refusals.specs.declared.Refusal.{Refusal}
 use Rattle.single.specs.Told.{number_told}
-use Rattle.single.proofs.Telling.{told_all}
+use Rattle.single.proofs.Numbers.{told_all}
 use Rattle.single.proofs.ids.value.Goals as goal
 
 pub returns-clause-told : goal.returns-clause-told
