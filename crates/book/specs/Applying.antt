@@ -6,10 +6,10 @@ use Rattle.wire.specs.Layout.{number_in, text_in}
 use Rattle.wire.specs.Number.{part}
 use Rattle.fields.specs.Id.{number_of}
 use Rattle.book_index.specs.Changes.{without}
-use Rattle.message.specs.Layouts.{size_in, type_in}
+use Rattle.message.specs.Layouts.{type_in}
 use Rattle.message.specs.Row.{no_text, fields_of, type_of, row_of}
 use Rattle.message.specs.Rules.{good_message}
-use Rattle.message.specs.Table.{payload_of, too_short}
+use Rattle.message.specs.Table.{payload_of}
 use Rattle.message.specs.Whole.{Whole}
 use Rattle.message.specs.declared.kinds.Message.{Message}
 use Rattle.book.specs.Lookup.{is_at, place_found, key_at, symbol_at}

@@ -1,6 +1,6 @@
 -- Where an order is live, and where a symbol's inside is held.
 -- Assumes nothing.
-use Rattle.std.specs.Prelude.{Bool, true, false, cond, ◌&&◌, List, [], ◌∷◌, ◌≡◌, ℕ, suc, ◌≤◌, eqb, Option, Some, None, is_some, unwrap_or}
+use Rattle.std.specs.Prelude.{Bool, cond, ◌&&◌, List, [], ◌∷◌, ◌≡◌, ℕ, suc, ◌≤◌, eqb, Option, Some, None, is_some, unwrap_or}
 use Rattle.wire.specs.Number.{num, part}
 use Rattle.fields.specs.Id.{no_value}
 use Rattle.book.specs.declared.lookup.Parts.{Parts}

@@ -13,7 +13,11 @@ use book::tables::{INSIDES, ORDERS};
 pub fn kept(good: bool, change: Effect) -> Effect
     ensures { result ≡ first_of ((not good, Effect.Fault Reason.RuleBroken) ∷ []) change }
 {
-    if good { change } else { Effect::Fault(Reason::RuleBroken) }
+    if good {
+        change
+    } else {
+        Effect::Fault(Reason::RuleBroken)
+    }
 }
 
 // 2, 3, 4, or the Add.

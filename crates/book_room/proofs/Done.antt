@@ -6,7 +6,7 @@ use mathlib.Core.List.{List}
 use Prim.Native.Nat.{ℕ, ◌+◌, ◌-◌, ◌<◌}
 use native.Mathlib.Omega.{arith}
 use lib.ListN.{get_or, set}
-use Rattle.std.specs.Prelude.{Option, Some, None}
+use Rattle.std.specs.Prelude.{Some, None}
 use Rattle.message.specs.Row.{fields_of}
 use Rattle.book.specs.Applying.{counted_apart, faulted, inside_of, order_of}
 use Rattle.book.specs.Lookup.{back_of, front_of}
@@ -21,7 +21,6 @@ use Rattle.book.proofs.Steps.{Decided, apart_done, enter_done, fault_done, put_d
 use Rattle.book_room.proofs.Decides.{remove_at, replace_at}
 use Rattle.book_room.specs.Arms.{Added, Changed, Told, after}
 use Rattle.book_room.specs.Room.{Counts, Gone, Houses, Lies, room_of}
-use Rattle.book_room.specs.declared.adding.Placed.{Placed}
 use Rattle.book_room.specs.declared.changing.Act.TheVariants as act
 
 module _ {room : List ℕ} {next end : ℕ} {b : Book} {number : ℕ} {s : List ℕ} (h : Houses room next end b number s) where

@@ -7,25 +7,58 @@ use Prim.Native.Nat.{ℕ, ◌+◌, ◌-◌, ◌≤◌, ◌<◌}
 use native.Mathlib.Omega.{arith}
 use borrow.Author.Tests.{lt-ltb, eq-eqb, ne_eqb, eqb-true, eqb-false}
 use lib.Dec.{eqb}
-use lib.ListN.{length, take, drop}
-use denote.Ref.{Bor}
+use lib.ListN.{length}
 use Rattle.packet.specs.Header.{header_in}
-use Rattle.packet.specs.Walk.{broken_at, step_at}
-use Rattle.packet.proofs.Walking.{Lies, step_within}
+use Rattle.std.proofs.Common.{Option, Some, None}
+use Rattle.refusals.specs.Refusals.{number_of}
+use Rattle.refusals.specs.declared.Refusal.{Refusal}
+use Rattle.refusals.proofs.Numbers.{by_number, some_number}
+use Rattle.packet.specs.Walk.{broken_at, some_size, step_at}
+use Rattle.packet.proofs.Walking.{Lies, found, missing, step_within}
 use Rattle.packet_reader.specs.Reading.{no_message, refusal_of}
-use Rattle.packet_reader.specs.Cursors.{Lent, behind_of, frame_at, framed, part_of, size_at, start_by, start_of}
+use Rattle.packet_reader.specs.Cursors.{behind_of, frame_at, framed, size_at, start_by, start_of}
 use Rattle.packet_reader.specs.declared.cursor.Cursor.{Cursor}
 use Rattle.packet_reader.specs.declared.cursor.Frame.{Frame}
 
 -- the cursor of a packet that is opened
-module _ (s : List ℕ) {refusal : ℕ} (told : refusal ≡ refusal_of s) where
-  pub start_refused : (refusal ≡ 0 → ⊥) → record { at = 0; left = 0; refusal = refusal } ≡ start_of s
+module _ (s : List ℕ) where
+  pub start_refused : (refusal : Refusal) → number_of refusal ≡ refusal_of s → record { at = 0; left = 0; refusal = Some refusal } ≡ start_of s
   unfolding start_by
-  start_refused h = simp (← told, ne_eqb refusal 0 h)
+  start_refused refusal told =
+      simp (← told, some_number refusal) (ap (λ (r : Refusal). record { at = 0; left = 0; refusal = Some r }) (sym (by_number refusal)))
 
-  pub start_accepted : {left : ℕ} → refusal ≡ 0 → left ≡ (header_in s).messages → record { at = 12; left = left; refusal = 0 } ≡ start_of s
+  pub start_accepted : {left : ℕ} → 0 ≡ refusal_of s → left ≡ (header_in s).messages → record { at = 12; left = left; refusal = None } ≡ start_of s
   unfolding start_by
-  start_accepted h e = simp (← told, eq-eqb refusal 0 h) (ap (λ (n : ℕ). record { at = 12; left = n; refusal = 0 }) e)
+  start_accepted h e = simp (← h) (ap (λ (n : ℕ). record { at = 12; left = n; refusal = None }) e)
+
+-- what a message that was found says of the pair that it was told by
+record Framed (f : ℕ × ℕ) (found : Frame) : Type 0 where
+  pub start : found.start ≡ f.0
+  pub size : found.size ≡ f.1
+  pub some : f.1 ≡ 0 → ⊥
+
+is_framed : (f : ℕ × ℕ) (found : Frame) → Some found ≡ framed f → Framed f found
+is_framed f found told = go (eqb f.1 0) refl
+  where
+    go : (b : Bool) → eqb f.1 0 ≡ b → Framed f found
+    go true e =
+        let z : Some found ≡ None = simp e at told in
+        let no : ◌≡◌ {A = ℕ} 0 1 = cc in
+        absurd (omega arith)
+    go false e =
+        let z : Some found ≡ Some (record { start = f.0; size = f.1 }) = simp e at told in
+        let same : found ≡ record { start = f.0; size = f.1 } = cc in
+        record { start = ap (λ (x : Frame). x.start) same; size = ap (λ (x : Frame). x.size) same; some = eqb-false f.1 0 e }
+
+not_framed : (f : ℕ × ℕ) → None ≡ framed f → f.1 ≡ 0
+not_framed f told = go (eqb f.1 0) refl
+  where
+    go : (b : Bool) → eqb f.1 0 ≡ b → f.1 ≡ 0
+    go true e = eqb-true f.1 0 e
+    go false e =
+        let z : ◌≡◌ {A = Option Frame} None (Some (record { start = f.0; size = f.1 })) = simp e at told in
+        let no : ◌≡◌ {A = ℕ} 0 1 = cc in
+        absurd (omega arith)
 
 -- the size at a cursor
 module _ (s : List ℕ) (c : Cursor) where
@@ -69,11 +102,14 @@ module _ (s : List ℕ) (c : Cursor) where
   unfolding frame_at
   frame_is h = simp (ne_eqb (size_at s c) 0 h)
 
-  pub none-framed : {size : ℕ} → size ≡ size_at s c → size ≡ 0 → record { start = 0; size = 0 } ≡ framed (frame_at s c)
-  none-framed told h = ap framed (sym (frame_none (sym told ∙ h)))
+  pub none-framed : None ≡ some_size (size_at s c) → None ≡ framed (frame_at s c)
+  none-framed told = ap framed (sym (frame_none (missing _ told)))
 
-  pub some_framed : {size : ℕ} → size ≡ size_at s c → (size ≡ 0 → ⊥) → record { start = c.at; size = size } ≡ framed (frame_at s c)
-  some_framed told h = ap (λ (n : ℕ). framed (c.at, n)) told ∙ ap framed (sym (frame_is (λ e. h (told ∙ e))))
+  pub some_framed : (size : ℕ) → Some size ≡ some_size (size_at s c) → Some (record { start = c.at; size = size }) ≡ framed (frame_at s c)
+  some_framed size told =
+      let f : (size ≡ size_at s c) × (size ≡ 0 → ⊥) = found size (size_at s c) told in
+      let g : framed (c.at, size) ≡ Some (record { start = c.at; size = size }) = simp (ne_eqb size 0 f.1) in
+      sym g ∙ ap (λ (n : ℕ). framed (c.at, n)) f.0 ∙ ap framed (sym (frame_is (λ e. f.1 (f.0 ∙ e))))
 
   pub size_of : (frame_at s c).1 ≡ size_at s c
   size_of = go (eqb (size_at s c) 0) refl
@@ -91,35 +127,31 @@ module _ (s : List ℕ) (c : Cursor) where
           let h : size_at s c ≡ 0 → ⊥ = eqb-false _ _ e in
           rw (frame_is h) (there h).lies.within
 
-  -- of a message that was found
-  module _ {found : Frame} (told : found ≡ framed (frame_at s c)) where
-    start_told : found.start ≡ (frame_at s c).0
-    start_told = ap (λ (f : Frame). f.start) told
+  pub stays : (frame_at s c).1 ≡ 0 → c ≡ behind_of s c
+  unfolding behind_of
+  stays h = sym (simp (eq-eqb (frame_at s c).1 0 h))
 
-    size_told : found.size ≡ (frame_at s c).1
-    size_told = ap (λ (f : Frame). f.size) told
+  pub moves : ((frame_at s c).1 ≡ 0 → ⊥) → record { at = (frame_at s c).0 + (frame_at s c).1; left = c.left - 1; refusal = c.refusal } ≡ behind_of s c
+  unfolding behind_of
+  moves h = sym (simp (ne_eqb (frame_at s c).1 0 h))
+
+  -- of what was found there
+  pub stays_none : None ≡ framed (frame_at s c) → c ≡ behind_of s c
+  stays_none told = stays (not_framed (frame_at s c) told)
+
+  module _ {found : Frame} (told : Some found ≡ framed (frame_at s c)) where
+    abbrev is : Framed (frame_at s c) found
+    is = is_framed (frame_at s c) found told
 
     pub found_within : found.start + found.size ≤ length s
-    found_within = rw (start_told, size_told) within
+    found_within = rw (is.start, is.size) within
 
-    pub found_some : (found.size ≡ 0 → ⊥) → 1 ≤ c.left
-    found_some h = (there (λ e. h (size_told ∙ size_of ∙ e))).some
+    pub found_some : 1 ≤ c.left
+    found_some = (there (λ e. is.some (size_of ∙ e))).some
 
-    pub stays : found.size ≡ 0 → c ≡ behind_of s c
-    unfolding behind_of
-    stays h = sym (simp (eq-eqb (frame_at s c).1 0 (sym size_told ∙ h)))
-
-    pub moves : {end : ℕ} → (found.size ≡ 0 → ⊥) → end ≡ found.start + found.size → record { at = end; left = c.left - 1; refusal = c.refusal } ≡ behind_of s c
-    unfolding behind_of
-    moves h ended =
+    pub moves_found : {end : ℕ} → end ≡ found.start + found.size → record { at = end; left = c.left - 1; refusal = c.refusal } ≡ behind_of s c
+    moves_found ended =
         ap (λ (n : ℕ). record { at = n; left = c.left - 1; refusal = c.refusal }) ended
-        ∙ ap (λ (f : Frame). record { at = f.start + f.size; left = c.left - 1; refusal = c.refusal }) told
-        ∙ sym (simp (ne_eqb (frame_at s c).1 0 (λ e. h (size_told ∙ e))))
-
--- the part that was cut out
-pub part_cut : (x : Bor (List ℕ)) (c : Cursor) {found : Frame} {end : ℕ} → found ≡ framed (frame_at x.now c) → end ≡ found.start + found.size
-    → ◌≡◌ {A = Lent} ((x.ref_ptr.0, found.start + x.ref_ptr.1), take (end - found.start) (drop found.start x.now)) (part_of x (frame_at x.now c))
-part_cut x c {found} {end} told ended =
-    let e₁ : found.start + x.ref_ptr.1 ≡ x.ref_ptr.1 + found.start = omega arith in
-    let e₂ : end - found.start ≡ found.size = omega arith in
-    simp (e₁, e₂) (ap (λ (f : Frame). part_of x (f.start, f.size)) told)
+        ∙ ap (λ (n : ℕ). record { at = n + found.size; left = c.left - 1; refusal = c.refusal }) is.start
+        ∙ ap (λ (n : ℕ). record { at = (frame_at s c).0 + n; left = c.left - 1; refusal = c.refusal }) is.size
+        ∙ moves is.some

@@ -6,29 +6,31 @@ use mathlib.Core.List.{List, [], ◌∷◌}
 use mathlib.Core.Logic.{⊎_elim}
 use Prim.Native.Nat.{ℕ, zero, suc, ◌+◌, ◌-◌, ◌≤◌, ◌<◌}
 use native.Mathlib.Omega.{arith}
-use borrow.Author.Tests.{eqb-true}
+use borrow.Author.Tests.{eqb-true, eqb-false}
 use lib.Dec.{eqb}
 use lib.ListN.{length, get_or}
 use denote.Ref.{Bor}
 use Rattle.packet.specs.Header.{header_in, heartbeat}
 use Rattle.packet.specs.Walk.{broken_at, frames_from, step_at, walk_from}
 use Rattle.packet.specs.Walk as walk
-use Rattle.packet.specs.declared.walk.Walked.TheVariants.{Whole, Broken}
+use Rattle.std.proofs.Common.{Option, Some, None}
+use Rattle.refusals.specs.Refusals.{refusal_by, refusal_or_none}
+use Rattle.refusals.specs.declared.Refusal.{Refusal}
 use Rattle.packet.proofs.Walking.{Lies, lies}
 use Rattle.packet_reader.specs.Reading.{message_of, messages_of, no_message, refusal_of}
-use Rattle.packet_reader.specs.Cursors.{after_of, behind_of, frame_at, framed, part_of, size_at, start_by, start_of}
+use Rattle.packet_reader.specs.Cursors.{after_of, behind_of, frame_at, part_if, size_at, start_by, start_of}
 use Rattle.packet_reader.specs.Steps.{next_part, opened, reader_behind, stepped}
 use Rattle.packet_reader.specs.declared.cursor.Cursor.{Cursor}
 use Rattle.packet_reader.specs.declared.read.Reader.{Reader}
 use Rattle.packet_reader.proofs.Frames.{frame_is, frame_none, moves, size_is, size_none, size_of, stays}
-use Rattle.packet_reader.proofs.Refusals.{either, heartbeat_empty}
+use Rattle.packet_reader.proofs.Refusals.{either, heartbeat_empty, numbered}
 
 module _ (s : List ℕ) where
   -- where none is left, the cursor stays and none is left
   none_stays : (k : ℕ) (c : Cursor) → size_at s c ≡ 0 → after_of k s c ≡ c
   unfolding after_of
   none_stays zero c h = refl
-  none_stays (suc k) c h = ap (after_of k s) (sym (stays s c {found = framed (frame_at s c)} refl (size_of s c ∙ h))) ∙ none_stays k c h
+  none_stays (suc k) c h = ap (after_of k s) (sym (stays s c (size_of s c ∙ h))) ∙ none_stays k c h
 
   pub none_for_ever : (k : ℕ) (c : Cursor) → size_at s c ≡ 0 → frame_at s (after_of k s c) ≡ no_message
   none_for_ever k c h = ap (frame_at s) (none_stays k c h) ∙ frame_none s c h
@@ -36,21 +38,21 @@ module _ (s : List ℕ) where
   -- a whole walk of one more message
   record Goes (left at : ℕ) : Type 0 where
     pub good : broken_at s at ≡ false
-    pub rest : walk_from left (at + walk.size_at s at) s ≡ Whole
+    pub rest : walk_from left (at + walk.size_at s at) s ≡ None
 
-  goes : (left at : ℕ) → walk_from (suc left) at s ≡ Whole → Goes left at
+  goes : (left at : ℕ) → walk_from (suc left) at s ≡ None → Goes left at
   unfolding walk_from
   goes left at h = go (broken_at s at) refl
     where
       go : (b : Bool) → broken_at s at ≡ b → Goes left at
       go true e =
-          let z : Broken at ≡ Whole = simp e at h in
+          let z : Some at ≡ None = simp e at h in
           let y : ◌≡◌ {A = ℕ} 0 1 = cc in
           absurd (omega arith)
       go false e = record { good = e; rest = simp e at h }
 
   -- the cursor at such a message, and behind it
-  module _ (left at refusal : ℕ) (good : broken_at s at ≡ false) where
+  module _ (left at : ℕ) (refusal : Option Refusal) (good : broken_at s at ≡ false) where
     abbrev here : Cursor
     here = record { at = at; left = suc left; refusal = refusal }
 
@@ -70,12 +72,12 @@ module _ (s : List ℕ) where
     next : behind_of s here ≡ record { at = at + walk.size_at s at; left = left; refusal = refusal }
     next =
         let e : suc left - 1 ≡ left = omega arith in
-        sym (moves s here {found = framed (frame_at s here)} refl (λ z. some (sym (size_of s here) ∙ z)) refl)
+        sym (moves s here (λ z. some (sym (size_of s here) ∙ z)))
         ∙ ap (λ (f : ℕ × ℕ). record { at = f.0 + f.1; left = suc left - 1; refusal = refusal }) first
         ∙ ap (λ (n : ℕ). record { at = at + walk.size_at s at; left = n; refusal = refusal }) e
 
   -- from a place on from which the walk is whole, the k-th step gives the k-th frame
-  hands_from : (left at refusal k : ℕ) → walk_from left at s ≡ Whole → frame_at s (after_of k s (record { at = at; left = left; refusal = refusal })) ≡ get_or (frames_from left at s) k no_message
+  hands_from : (left at : ℕ) (refusal : Option Refusal) (k : ℕ) → walk_from left at s ≡ None → frame_at s (after_of k s (record { at = at; left = left; refusal = refusal })) ≡ get_or (frames_from left at s) k no_message
   unfolding frames_from after_of
   hands_from zero at refusal k h = none_for_ever k (record { at = at; left = zero; refusal = refusal }) (sym (size_none s (record { at = at; left = zero; refusal = refusal }) refl))
   hands_from (suc left) at refusal zero h = first left at refusal (goes left at h).good
@@ -84,7 +86,7 @@ module _ (s : List ℕ) where
       ap (λ (c : Cursor). frame_at s (after_of k s c)) (next left at refusal g.good) ∙ hands_from left (at + walk.size_at s at) refusal k g.rest
 
   -- each of those has its header
-  sized_from : (left at k : ℕ) → walk_from left at s ≡ Whole → k < length (frames_from left at s) → 3 ≤ (get_or (frames_from left at s) k no_message).1
+  sized_from : (left at k : ℕ) → walk_from left at s ≡ None → k < length (frames_from left at s) → 3 ≤ (get_or (frames_from left at s) k no_message).1
   unfolding frames_from
   sized_from zero at k h i = absurd (omega arith)
   sized_from (suc left) at zero h i = (lies s at (goes left at h).good).least
@@ -102,10 +104,10 @@ module _ (s : List ℕ) where
       go true e =
           simp e
           (⊎_elim
-          (λ z. none (record { at = 12; left = (header_in s).messages; refusal = 0 }) z ∙ sym (ap (λ (n : ℕ). get_or (frames_from n 12 s) k no_message) z))
-          (λ w. hands_from (header_in s).messages 12 0 k w)
+          (λ z. none (record { at = 12; left = (header_in s).messages; refusal = None }) z ∙ sym (ap (λ (n : ℕ). get_or (frames_from n 12 s) k no_message) z))
+          (λ w. hands_from (header_in s).messages 12 None k w)
           (either s (eqb-true _ _ e)))
-      go false e = simp e (none (record { at = 0; left = 0; refusal = refusal_of s }) refl)
+      go false e = simp e (none (record { at = 0; left = 0; refusal = Some (refusal_by (refusal_of s)) }) refl)
 
   -- a message is never taken for none: it has 3 bytes at least
   pub sized : (k : ℕ) → k < length (messages_of s) → 3 ≤ (message_of s k).1
@@ -157,13 +159,13 @@ module _ (s : List ℕ) where
   refusal_after zero c = refl
   refusal_after (suc k) c = refusal_after k (behind_of s c) ∙ refusal_behind c
 
-  pub refusal_start : (start_of s).refusal ≡ refusal_of s
+  pub refusal_start : refusal_or_none (start_of s).refusal ≡ refusal_of s
   unfolding start_by
   refusal_start = go (eqb (refusal_of s) 0) refl
     where
-      go : (b : Bool) → eqb (refusal_of s) 0 ≡ b → (start_of s).refusal ≡ refusal_of s
+      go : (b : Bool) → eqb (refusal_of s) 0 ≡ b → refusal_or_none (start_of s).refusal ≡ refusal_of s
       go true e = simp e (sym (eqb-true _ _ e))
-      go false e = simp e
+      go false e = simp e (numbered s (eqb-false _ _ e))
 
 -- the reader behind so many steps keeps the packet
 module _ (p : Bor (List ℕ)) where
@@ -173,21 +175,24 @@ module _ (p : Bor (List ℕ)) where
   stepped-is (suc k) c = stepped-is k (behind_of p.now c)
 
   -- step by step a reader hands out the messages of its packet, in order, and then none, for ever
-  pub hands_out : (k : ℕ) → next_part (stepped k (opened p)) ≡ part_of p (message_of p.now k)
-  hands_out k = ap next_part (stepped-is k (start_of p.now)) ∙ ap (part_of p) (listed p.now k)
+  pub hands_out : (k : ℕ) → next_part (stepped k (opened p)) ≡ part_if p (message_of p.now k)
+  hands_out k = ap next_part (stepped-is k (start_of p.now)) ∙ ap (part_if p) (listed p.now k)
 
-  pub none_left : (k : ℕ) → length (messages_of p.now) ≤ k → next_part (stepped k (opened p)) ≡ part_of p no_message
-  none_left k h = hands_out k ∙ ap (part_of p) (past_all p.now k h)
+  pub none_left : (k : ℕ) → length (messages_of p.now) ≤ k → next_part (stepped k (opened p)) ≡ None
+  none_left k h = hands_out k ∙ ap (part_if p) (past_all p.now k h)
 
   -- and says which of 1 to 7 refused it, at every step
-  pub refusal_told : (k : ℕ) → (stepped k (opened p)).cursor.refusal ≡ refusal_of p.now
-  refusal_told k = ap (λ (r : Reader). r.cursor.refusal) (stepped-is k (start_of p.now)) ∙ refusal_after p.now k (start_of p.now) ∙ refusal_start p.now
+  pub refusal_told : (k : ℕ) → refusal_or_none (stepped k (opened p)).cursor.refusal ≡ refusal_of p.now
+  refusal_told k =
+      ap (λ (r : Reader). refusal_or_none r.cursor.refusal) (stepped-is k (start_of p.now))
+      ∙ ap refusal_or_none (refusal_after p.now k (start_of p.now))
+      ∙ refusal_start p.now
 
 -- of any reader: the end is final, since a reader with none left is the reader behind it
 pub end_final : (r : Reader) → frame_at r.packet.now r.cursor ≡ no_message → reader_behind r ≡ r
 end_final r h =
     let s : List ℕ = r.packet.now in
-    ap (λ (c : Cursor). record { packet = r.packet; cursor = c }) (sym (stays s r.cursor {found = framed (frame_at s r.cursor)} refl (ap (λ (f : ℕ × ℕ). f.1) h)))
+    ap (λ (c : Cursor). record { packet = r.packet; cursor = c }) (sym (stays s r.cursor (ap (λ (f : ℕ × ℕ). f.1) h)))
 
 -- passing messages one by one
 module _ (s : List ℕ) where
@@ -196,12 +201,12 @@ module _ (s : List ℕ) where
   after-all zero c h = refl
   after-all (suc n) c h = absurd (omega arith)
 
-  pub after_one : (n : ℕ) (c : Cursor) {d : Cursor} → 0 < n → d ≡ behind_of s c → after_of n s c ≡ after_of (n - 1) s d
+  pub after_one : (n next : ℕ) (c : Cursor) {d : Cursor} → n ≡ suc next → d ≡ behind_of s c → after_of n s c ≡ after_of next s d
   unfolding after_of
-  after_one zero c h told = absurd (omega arith)
-  after_one (suc n) c h told =
-      let e : suc n - 1 ≡ n = omega arith in
-      simp e (ap (after_of n s) (sym told))
+  after_one zero next c h told = absurd (omega arith)
+  after_one (suc n) next c h told =
+      let e : n ≡ next = omega arith in
+      simp e (ap (after_of next s) (sym told))
 
   pub listed_at : (k : ℕ) {c : Cursor} → c ≡ after_of k s (start_of s) → frame_at s c ≡ message_of s k
   listed_at k told = ap (frame_at s) told ∙ listed s k

@@ -9,15 +9,17 @@ use native.Mathlib.Omega.{arith}
 use borrow.Author.Tests.{eq-eqb, ne_eqb, eqb-true, eqb-false}
 use lib.Dec.{eqb, ltb}
 use Rattle.wire.specs.Choice.{first_of}
-use Rattle.packet.specs.Header.{Test, decided, flag_tests, heartbeat, header_in, header_tests, reserved}
+use Rattle.packet.specs.Header.{Test, decided, flag_tests, heartbeat, header_in, header_tests, judged, reserved, told, Judged}
 use Rattle.packet.specs.Judging.{body_tests, judge_of, last_of, packet_tests, unless_heartbeat}
 use Rattle.packet.specs.Walk.{walk_from}
-use Rattle.packet.specs.declared.header.Judged.{Judged}
-use Rattle.packet.specs.declared.walk.Walked.{Walked}
-use Rattle.packet.specs.declared.walk.Walked.TheVariants.{Whole, Broken}
+use Rattle.std.proofs.Common.{◌++◌, Option, Some, None, Result, Err, IsErrAnd}
+use Rattle.std.proofs.lemmas.Result.{err_from_is_err_and}
+use Rattle.refusals.specs.Refusals.{number_of, refusal_by, refusal_in}
+use Rattle.refusals.specs.declared.Refusal.{Refusal}
+use Rattle.packet.specs.declared.header.Rejection.{Rejection}
 use Rattle.packet.proofs.Headers.{Passed, passed}
 use Rattle.packet.proofs.Judgements.{decides, header_numbered, joined, passes}
-use Rattle.packet_reader.specs.Reading.{read_tests, refusal_of, walk_tests}
+use Rattle.packet_reader.specs.Reading.{judged_by, read_tests, refusal_of, walk_tests}
 
 -- a test's number, 8 taken as none
 abbrev but8 : ℕ → ℕ
@@ -41,15 +43,47 @@ unfolding header_tests flag_tests
 header_no8 s = (refl, (refl, (refl, (refl, (refl, (refl, (refl, tt)))))))
 
 -- behind the header's tests
-behind_header : (beats : Bool) (walked : Walked) (seq messages : ℕ) → but8 (decided (unless_heartbeat beats (body_tests walked seq messages))).0 ≡ (decided (unless_heartbeat beats (walk_tests walked))).0
+behind_header : (beats : Bool) (walked : Option ℕ) (seq messages : ℕ) → but8 (decided (unless_heartbeat beats (body_tests walked seq messages))).0 ≡ (decided (unless_heartbeat beats (walk_tests walked))).0
 unfolding body_tests
 behind_header true walked seq messages = refl
-behind_header false (Broken at) seq messages = refl
-behind_header false Whole seq messages = go (ltb 4294967295 (last_of seq messages))
+behind_header false (Some at) seq messages = refl
+behind_header false None seq messages = go (ltb 4294967295 (last_of seq messages))
   where
     go : (b : Bool) → but8 (cond {A = ℕ × ℕ} b (8, 2) (0, 0)).0 ≡ 0
     go true = refl
     go false = refl
+
+-- each test of a list has the number of a refusal
+abbrev Told : List Test → Type 0
+Told [] = Unit {0}
+Told (x ∷ xs) = (number_of (refusal_by x.1.0) ≡ x.1.0) × Told xs
+
+told_either : (b : Bool) (a d : ℕ × ℕ) → number_of (refusal_by a.0) ≡ a.0 → ((d.0 ≡ 0 → ⊥) → number_of (refusal_by d.0) ≡ d.0) → ((cond b a d).0 ≡ 0 → ⊥) → number_of (refusal_by (cond b a d).0) ≡ (cond b a d).0
+told_either true a d one rest h = one
+told_either false a d one rest h = rest h
+
+told_by : (xs : List Test) → Told xs → ((decided xs).0 ≡ 0 → ⊥) → number_of (refusal_by (decided xs).0) ≡ (decided xs).0
+told_by [] t h = absurd (h refl)
+told_by (x ∷ xs) t h = told_either x.0 x.1 (decided xs) t.0 (told_by xs t.1) h
+
+joined_told : (xs ys : List Test) → Told xs → Told ys → Told (xs ++ ys)
+joined_told [] ys t u = u
+joined_told (x ∷ xs) ys t u = (t.0, joined_told xs ys t.1 u)
+
+header_told : (s : List ℕ) → Told (header_tests s)
+unfolding header_tests flag_tests refusal_by
+header_told s = (refl, (refl, (refl, (refl, (refl, (refl, (refl, tt)))))))
+
+behind_told : (beats : Bool) (fault : Option ℕ) → Told (unless_heartbeat beats (walk_tests fault))
+unfolding refusal_by
+behind_told true fault = tt
+behind_told false fault = (refl, tt)
+
+read_told : (s : List ℕ) → Told (read_tests s)
+unfolding read_tests
+read_told s =
+    joined_told (header_tests s) (unless_heartbeat (heartbeat (header_in s).flag) (walk_tests (walk_from (header_in s).messages 12 s))) (header_told s)
+    (behind_told (heartbeat (header_in s).flag) (walk_from (header_in s).messages 12 s))
 
 module _ (s : List ℕ) where
   -- the tests behind the header's
@@ -68,15 +102,36 @@ module _ (s : List ℕ) where
       ∙ kept (header_tests s) (decided tests) (decided more) (header_no8 s) (behind_header (heartbeat (header_in s).flag) (walk_from (header_in s).messages 12 s) (header_in s).seq (header_in s).messages)
       ∙ sym apart
 
-  module _ {said : Judged} (told : said ≡ judge_of s) where
-    number : said.test ≡ (judge_of s).test
-    number = ap (λ (x : Judged). x.test) told
+  -- by the test of 1 to 8 that was told
+  module _ (row : ℕ × ℕ) (said : judged row ≡ judge_of s) where
+    told_number : row.0 ≡ (judge_of s).test
+    told_number = ap (λ (x : Judged). x.test) said
 
-    pub eight : said.test ≡ 8 → 0 ≡ refusal_of s
-    eight h = sym (simp (eq-eqb (judge_of s).test 8 (sym number ∙ h))) ∙ but_eight
+    pub eight : row.0 ≡ 8 → judged (0, 0) ≡ judged_by s
+    unfolding judged_by
+    eight h = sym (simp (eq-eqb (judge_of s).test 8 (sym told_number ∙ h)))
 
-    pub others : (said.test ≡ 8 → ⊥) → said.test ≡ refusal_of s
-    others h = number ∙ sym (simp (ne_eqb (judge_of s).test 8 (λ e. h (number ∙ e)))) ∙ but_eight
+    pub others : (row.0 ≡ 8 → ⊥) → judged row ≡ judged_by s
+    unfolding judged_by
+    others h = said ∙ sym (simp (ne_eqb (judge_of s).test 8 (λ e. h (told_number ∙ e))))
+
+  pub judged-number : (judged_by s).test ≡ refusal_of s
+  unfolding judged_by
+  judged-number = by_case (eqb (judge_of s).test 8) ∙ but_eight
+    where
+      by_case : (b : Bool) → (cond b (judged (0, 0)) (judge_of s)).test ≡ cond b 0 (judge_of s).test
+      by_case true = refl
+      by_case false = refl
+
+  pub refusal_told_by : (answer : Result (Unit {0}) Refusal) (rejection : Rejection) → told (Err rejection) ≡ judged_by s → IsErrAnd answer (λ refusal. refusal ≡ rejection.refusal) → refusal_in answer ≡ refusal_of s
+  refusal_told_by answer rejection said h =
+      let e = err_from_is_err_and answer h in
+      ap (λ (r : Result (Unit {0}) Refusal). refusal_in r) (e.1 ∙ ap Err e.2) ∙ ap (λ (x : Judged). x.test) said ∙ judged-number
+
+  -- the number of 1 to 7 that applies is that of a refusal
+  pub numbered : (refusal_of s ≡ 0 → ⊥) → number_of (refusal_by (refusal_of s)) ≡ refusal_of s
+  unfolding refusal_of
+  numbered some = told_by (read_tests s) (read_told s) some
 
   -- of a packet that none of 1 to 7 refuses
   module _ (none : refusal_of s ≡ 0) where
@@ -95,9 +150,9 @@ module _ (s : List ℕ) where
     more_none : (decided more).0 ≡ 0
     more_none = sym (ap (λ (x : ℕ × ℕ). x.0) (passes (header_tests s) (decided more) (header_numbered s) header_none)) ∙ sym apart ∙ none
 
-    whole_walk : (walked : Walked) → (decided (walk_tests walked)).0 ≡ 0 → walked ≡ Whole
-    whole_walk Whole h = refl
-    whole_walk (Broken at) h = absurd (omega arith)
+    whole_walk : (walked : Option ℕ) → (decided (walk_tests walked)).0 ≡ 0 → walked ≡ None
+    whole_walk None h = refl
+    whole_walk (Some at) h = absurd (omega arith)
 
     no_messages : (size flag messages : ℕ) → heartbeat flag ≡ true → (decided (flag_tests size flag messages)).0 ≡ 0 → messages ≡ 0
     unfolding flag_tests
@@ -113,9 +168,9 @@ module _ (s : List ℕ) where
     heartbeat_empty beats = no_messages _ _ _ beats accepted.flags
 
     -- it is a heartbeat with no message, or its walk is whole
-    pub either : ((header_in s).messages ≡ 0) ⊎ (walk_from (header_in s).messages 12 s ≡ Whole)
+    pub either : ((header_in s).messages ≡ 0) ⊎ (walk_from (header_in s).messages 12 s ≡ None)
     either = go (heartbeat (header_in s).flag) refl
       where
-        go : (b : Bool) → heartbeat (header_in s).flag ≡ b → ((header_in s).messages ≡ 0) ⊎ (walk_from (header_in s).messages 12 s ≡ Whole)
+        go : (b : Bool) → heartbeat (header_in s).flag ≡ b → ((header_in s).messages ≡ 0) ⊎ (walk_from (header_in s).messages 12 s ≡ None)
         go true e = inl (heartbeat_empty e)
         go false e = inr (whole_walk _ (simp e at more_none))

@@ -11,10 +11,8 @@ fn cursor_of(s: &[u8], i: u8) -> Cursor
     ensures { result ≡ after_of i s.now (start_of s.now) }
 {
     let mut at = cursor::start(s);
-    let mut before = i;
-    while 0 < before {
+    for _ in 0..i {
         at = cursor::behind(s, at);
-        before -= 1;
     }
     at
 }

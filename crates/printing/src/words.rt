@@ -1,38 +1,31 @@
-// Parts: a text, a number, bytes, and the end of a line.
+// Parts: bytes as they are, in hex and between quotes.
 use std::io;
 use text::{hex, output};
+
+// How a message's texts are printed.
+#[derive(Clone, Copy)]
+pub enum Texts {
+    Quoted,
+    Hex,
+}
+
+impl Texts {
+    pub fn put(self, rt: &impl Print, text: &[u8]) -> io::Result<()> {
+        match self {
+            Texts::Quoted => quoted(rt, text),
+            Texts::Hex => bytes(rt, text),
+        }
+    }
+}
 
 pub fn put(rt: &impl Print, text: &[u8]) -> io::Result<()> {
     rt.write_all(text)
 }
 
-// Between a label and its answer.
-pub fn colon(rt: &impl Print) -> io::Result<()> {
-    put(rt, b": ")
-}
-
-// The end of a line.
-pub fn end(rt: &impl Print) -> io::Result<()> {
-    put(rt, b"\n")
-}
-
-// A number.
-pub fn digits(rt: &impl Print, n: u64) -> io::Result<()> {
-    print!(rt; "{n}")
-}
-
-// A number behind a space.
-pub fn number(rt: &impl Print, n: u64) -> io::Result<()> {
-    put(rt, b" ")?;
-    digits(rt, n)
-}
-
-pub fn small(rt: &impl Print, n: u32) -> io::Result<()> {
-    number(rt, n as u64)
-}
-
-pub fn byte(rt: &impl Print, n: u8) -> io::Result<()> {
-    number(rt, n as u64)
+// A label and what stands before its answer.
+pub fn label(rt: &impl Print, label: &[u8]) -> io::Result<()> {
+    put(rt, label)?;
+    print!(rt; ": ")
 }
 
 // Bytes in hex behind a space, `-` for none: 2,048 of them at most.

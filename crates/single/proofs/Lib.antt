@@ -4,4 +4,4 @@ pub mod Laying
 pub mod Returning
 pub mod Steps
 pub mod Taking
-pub mod Telling
+pub mod Numbers

@@ -5,8 +5,10 @@
 // (specs/Layout.antt) is a list of such fields, and its laws are proved once, over the width.
 #![tactic(auto)]
 
+mod number;
 mod read;
 mod write;
 
+pub use number::{Number, number_at, put_number};
 pub use read::{text_at, u8_at, u16_at, u32_at, u64_at};
 pub use write::{put_text, put_u8, put_u16, put_u32, put_u64};

