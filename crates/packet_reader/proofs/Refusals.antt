@@ -9,14 +9,17 @@ use native.Mathlib.Omega.{arith}
 use borrow.Author.Tests.{eq-eqb, ne_eqb, eqb-true, eqb-false}
 use lib.Dec.{eqb, ltb}
 use Rattle.wire.specs.Choice.{first_of}
-use Rattle.packet.specs.Header.{Test, decided, flag_tests, heartbeat, header_in, header_tests, judged, reserved, Judged}
+use Rattle.packet.specs.Header.{Test, decided, flag_tests, heartbeat, header_in, header_tests, judged, reserved, told, Judged}
 use Rattle.packet.specs.Judging.{body_tests, judge_of, last_of, packet_tests, unless_heartbeat}
 use Rattle.packet.specs.Walk.{walk_from}
-use Rattle.std.proofs.Common.{◌++◌, Option, Some, None}
-use Rattle.refusals.specs.Refusals.{number_of, refusal_by}
+use Rattle.std.proofs.Common.{◌++◌, Option, Some, None, Result, Err, IsErrAnd}
+use Rattle.std.proofs.lemmas.Result.{err_from_is_err_and}
+use Rattle.refusals.specs.Refusals.{number_of, refusal_by, refusal_in}
+use Rattle.refusals.specs.declared.Refusal.{Refusal}
+use Rattle.packet.specs.declared.header.Rejection.{Rejection}
 use Rattle.packet.proofs.Headers.{Passed, passed}
 use Rattle.packet.proofs.Judgements.{decides, header_numbered, joined, passes}
-use Rattle.packet_reader.specs.Reading.{read_tests, refusal_of, walk_tests}
+use Rattle.packet_reader.specs.Reading.{judged_by, read_tests, refusal_of, walk_tests}
 
 -- a test's number, 8 taken as none
 abbrev but8 : ℕ → ℕ
@@ -99,16 +102,31 @@ module _ (s : List ℕ) where
       ∙ kept (header_tests s) (decided tests) (decided more) (header_no8 s) (behind_header (heartbeat (header_in s).flag) (walk_from (header_in s).messages 12 s) (header_in s).seq (header_in s).messages)
       ∙ sym apart
 
-  -- by the number of 1 to 8 that was told
-  module _ (number offset : ℕ) (said : judged (number, offset) ≡ judge_of s) where
-    told_number : number ≡ (judge_of s).test
+  -- by the test of 1 to 8 that was told
+  module _ (row : ℕ × ℕ) (said : judged row ≡ judge_of s) where
+    told_number : row.0 ≡ (judge_of s).test
     told_number = ap (λ (x : Judged). x.test) said
 
-    pub eight : number ≡ 8 → 0 ≡ refusal_of s
-    eight h = sym (simp (eq-eqb (judge_of s).test 8 (sym told_number ∙ h))) ∙ but_eight
+    pub eight : row.0 ≡ 8 → judged (0, 0) ≡ judged_by s
+    unfolding judged_by
+    eight h = sym (simp (eq-eqb (judge_of s).test 8 (sym told_number ∙ h)))
 
-    pub others : (number ≡ 8 → ⊥) → number ≡ refusal_of s
-    others h = told_number ∙ sym (simp (ne_eqb (judge_of s).test 8 (λ e. h (told_number ∙ e)))) ∙ but_eight
+    pub others : (row.0 ≡ 8 → ⊥) → judged row ≡ judged_by s
+    unfolding judged_by
+    others h = said ∙ sym (simp (ne_eqb (judge_of s).test 8 (λ e. h (told_number ∙ e))))
+
+  pub judged-number : (judged_by s).test ≡ refusal_of s
+  unfolding judged_by
+  judged-number = by_case (eqb (judge_of s).test 8) ∙ but_eight
+    where
+      by_case : (b : Bool) → (cond b (judged (0, 0)) (judge_of s)).test ≡ cond b 0 (judge_of s).test
+      by_case true = refl
+      by_case false = refl
+
+  pub refusal_told_by : (answer : Result (Unit {0}) Refusal) (rejection : Rejection) → told (Err rejection) ≡ judged_by s → IsErrAnd answer (λ refusal. refusal ≡ rejection.refusal) → refusal_in answer ≡ refusal_of s
+  refusal_told_by answer rejection said h =
+      let e = err_from_is_err_and answer h in
+      ap (λ (r : Result (Unit {0}) Refusal). refusal_in r) (e.1 ∙ ap Err e.2) ∙ ap (λ (x : Judged). x.test) said ∙ judged-number
 
   -- the number of 1 to 7 that applies is that of a refusal
   pub numbered : (refusal_of s ≡ 0 → ⊥) → number_of (refusal_by (refusal_of s)) ≡ refusal_of s

@@ -1,8 +1,8 @@
 -- Document 01, a packet walked without a session: the tests 1 to 7, and its messages in order.
 -- Assumes nothing.
 use Rattle.std.specs.Prelude.{cond, List, [], ◌∷◌, ◌++◌, ℕ, eqb, get_or, Option}
-use Rattle.packet.specs.Header.{Test, decided, heartbeat, header_in, header_tests}
-use Rattle.packet.specs.Judging.{fault_of, is_broken, unless_heartbeat}
+use Rattle.packet.specs.Header.{Judged, Test, decided, heartbeat, header_in, header_tests, judged}
+use Rattle.packet.specs.Judging.{fault_of, judge_of, is_broken, unless_heartbeat}
 use Rattle.packet.specs.Walk.{frames_from, walk_from}
 
 -- 7 a message at fault, or bytes after the last
@@ -16,6 +16,10 @@ read_tests s = header_tests s ++ unless_heartbeat (heartbeat (header_in s).flag)
 -- the first of 1 to 7 that applies, 0 where none does
 unfoldable pub refusal_of : List ℕ → ℕ
 refusal_of s = (decided (read_tests s)).0
+
+-- its number and the offset that it rests on (the law `judged-number`): 1 to 8, with no test where it is 8
+unfoldable pub judged_by : List ℕ → Judged
+judged_by s = cond (eqb (judge_of s).test 8) (judged (0, 0)) (judge_of s)
 
 -- where each message starts and how many bytes it has: a refused packet has none, and a heartbeat, whose Messages is 0, has none
 unfoldable pub messages_of : List ℕ → List (ℕ × ℕ)

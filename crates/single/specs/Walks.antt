@@ -1,18 +1,9 @@
 -- Document 01, a packet walked without a session, in numbers.
 -- Assumes nothing.
-use Rattle.std.specs.Prelude.{◌≡◌, cond, List, [], ◌∷◌, ◌⊎◌, ℕ, ◌*◌, eqb, ltb, length}
-use Rattle.packet.specs.Header.{judged}
-use Rattle.packet.specs.Judging.{judge_of}
+use Rattle.std.specs.Prelude.{◌≡◌, cond, List, [], ◌∷◌, ◌⊎◌, ℕ, ◌*◌, eqb, ltb, length, None}
 use Rattle.packet.specs.Walk.{walk_from}
-use Rattle.packet.specs.declared.header.Judged.{Judged}
-use Rattle.packet.specs.declared.walk.Walked.TheVariants.{Whole}
-use Rattle.packet_reader.specs.Reading.{messages_of, refusal_of}
+use Rattle.packet_reader.specs.Reading.{judged_by, messages_of, refusal_of}
 use Rattle.single.specs.Over.{over}
-
--- the first of 1 to 7 that applies (the law `judged-number`: its number is `refusal_of`) and the offset that it rests on; no test, where
--- it is 8
-unfoldable pub judged_by : List ℕ → Judged
-judged_by s = cond (eqb (judge_of s).test 8) (judged (0, 0)) (judge_of s)
 
 -- where each message starts and how many bytes it has, one behind the other
 abbrev pub flat : List (ℕ × ℕ) → List ℕ
@@ -33,4 +24,4 @@ walk_numbers s = (judged_by s).offset ∷ length (messages_of s) ∷ []
 
 -- so many messages lie in a packet from a place on, up to its end; of none nothing is asked
 abbrev pub Walkable : ℕ → ℕ → List ℕ → Type 0
-Walkable messages at s = (messages ≡ 0) ⊎ (walk_from messages at s ≡ Whole)
+Walkable messages at s = (messages ≡ 0) ⊎ (walk_from messages at s ≡ None)

@@ -3,29 +3,27 @@ ghost use Rattle.std.specs.Prelude.{◌≡◌, [], ◌∷◌, ◌*◌, ◌≤◌
 ghost use Rattle.packet.specs.Judging.{judge_of};
 ghost use Rattle.packet.specs.Walk.{frames_from};
 ghost use Rattle.single.specs.Over.{over};
-ghost use Rattle.single.specs.Walks.{flat, judged_by, places_after, walk_numbers, walk_refusal, Walkable};
+ghost use Rattle.single.specs.Walks.{flat, places_after, walk_numbers, walk_refusal, Walkable};
 
-use packet::{HEADER, Judged};
+use packet::HEADER;
+use packet_reader::judge::judged;
+use refusals::Refusal;
 
 // Which of 1 to 8 decides, and the byte offset that it rests on.
 pub fn judge(packet: &[u8], told: &mut [u64; 1]) -> u64
     ensures refusal { result ≡ (judge_of packet.now).test }
     ensures told { told.new ≡ over ((judge_of packet.now).offset ∷ []) told.old }
 {
-    let said = packet_judge::judge(packet);
-    told[0] = said.offset as u64;
-    said.test as u64
-}
-
-// The same without 8, which is about numbers that only a session counts.
-fn opened(packet: &[u8]) -> Judged
-    ensures { result ≡ judged_by packet.now }
-{
-    let said = packet_judge::judge(packet);
-    if said.test == 8 {
-        return packet::header::verdict(0, 0);
+    match packet_judge::judge(packet) {
+        Ok(()) => {
+            told[0] = 0;
+            0
+        }
+        Err(rejection) => {
+            told[0] = rejection.offset as u64;
+            rejection.refusal.number() as u64
+        }
     }
-    said
 }
 
 fn put(s: &[u8], messages: u8, places: &mut [u64])
@@ -34,15 +32,11 @@ fn put(s: &[u8], messages: u8, places: &mut [u64])
     ensures { places.new ≡ over (flat (frames_from messages 12 s.now)) places.old }
 {
     let mut at = HEADER;
-    let mut k = 0;
-    let mut left = messages;
-    while 0 < left {
+    for i in 0..messages as usize {
         let size = wire::u16_at(s, at) as usize;
-        places[k] = at as u64;
-        places[k + 1] = size as u64;
-        k += 2;
+        places[2 * i] = at as u64;
+        places[2 * i + 1] = size as u64;
         at += size;
-        left -= 1;
     }
 }
 
@@ -53,16 +47,16 @@ pub fn walk(packet: &[u8], places: &mut [u64], told: &mut [u64; 2]) -> u64
     ensures places { places.new ≡ places_after packet.now places.old }
     ensures told { told.new ≡ over (walk_numbers packet.now) told.old }
 {
-    let said = opened(packet);
-    told[0] = said.offset as u64;
-    if said.test != 0 {
+    if let Err(rejection) = judged(packet) {
+        told[0] = rejection.offset as u64;
         told[1] = 0;
-        return said.test as u64;
+        return rejection.refusal.number() as u64;
     }
     let messages = wire::u8_at(packet, 7);
+    told[0] = 0;
     told[1] = messages as u64;
     if places.len() / 2 < messages as usize {
-        return 11;
+        return Refusal::NoRoom.number() as u64;
     }
     put(packet, messages, places);
     0

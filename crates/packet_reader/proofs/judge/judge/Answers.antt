@@ -1,18 +1,12 @@
--- `packet_reader::judge::judge` meets its contract: 1 to 8, with 8 left out.
+-- `packet_reader::judge::judge` meets its contract: the number that the rejection has.
 -- Assumes nothing.
-use Rattle.std.proofs.Common.{ap, ◌∙◌, sym}
-use native.Mathlib.Omega.{arith}
-use Rattle.refusals.specs.Refusals.{number_of, refusal_by}
-use Rattle.refusals.proofs.Numbers.{by_number}
-use Rattle.packet_reader.proofs.Refusals.{eight, others}
+use Rattle.std.proofs.Common.{ap, ◌∙◌}
+use Rattle.packet.specs.Header.{Judged}
+use Rattle.packet_reader.proofs.Refusals.{judged-number, refusal_told_by}
 use Rattle.packet_reader.proofs.judge.judge.Goals as goal
 
-pub returns-in-Ok : goal.returns-in-Ok
-returns-in-Ok c = others _ _ _ (c.in-Ok.ensures {u = tt}) (λ e. absurd (omega arith))
+pub returns-in_err-judged : goal.returns-in_err-judged
+returns-in_err-judged c = refusal_told_by _ _ _ (c.in_err-judged.ensures {u = tt}) c.from_residual.ensures.1
 
-pub returns-in-PastLastNumber : goal.returns-in-PastLastNumber
-returns-in-PastLastNumber c = eight _ _ _ (c.in-Err.ensures {u = tt}) (ap number_of c.in-PastLastNumber.is)
-
-pub returns-in_default : goal.returns-in_default
-unfolding refusal_by
-returns-in_default c = others _ _ _ (c.in-Err.ensures {u = tt}) (λ e. c.in_default.not-PastLastNumber (sym (by_number _) ∙ ap refusal_by e))
+pub returns : goal.returns
+returns c = ap (λ (x : Judged). x.test) (c.in_ok-judged.ensures {u = tt}) ∙ judged-number _
