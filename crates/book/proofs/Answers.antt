@@ -30,12 +30,6 @@ use Rattle.book.proofs.Steps.{front_keys}
 use Rattle.book.proofs.Types.{pick, answer_refused, answer_value}
 use Rattle.book.proofs.Under.{key_below, symbol_below}
 
-get_d_take : (n i : ℕ) (xs : List Order) → i < n → get_or (take n xs) i blank ≡ get_or xs i blank
-get_d_take zero i xs h = absurd (omega arith)
-get_d_take (suc n) i [] h = refl
-get_d_take (suc n) zero (x ∷ xs) h = refl
-get_d_take (suc n) (suc i) (x ∷ xs) h = get_d_take n i xs (omega arith)
-
 module _ (b : Book) (kept : Kept b) where
   -- ---- by order id
 

@@ -18,8 +18,8 @@ loop-k-preserved c = best_step _ _ _ c.loop-k.invariant c.loop-k-test.true (c.jo
 pub returns-then-not-good_symbol : goal.returns-then-not-good_symbol
 returns-then-not-good_symbol c =
     elim c.then-not-good_symbol.branch [
-      then-not-good_symbol-via-then-not-good_symbol w ↦ bad_symbol _ _ _ (sym c.good_symbol.ensures ∙ w.if-not-good_symbol.true)
-    | then-not-good_symbol-via-else-not-good_symbol+then-not-good_side w ↦ bad_side _ _ _ (sym w.good_side.ensures ∙ w.if-not-good_side.true)
+      | then-not-good_symbol-via-then-not-good_symbol w ↦ bad_symbol _ _ _ (sym c.good_symbol.ensures ∙ w.if-not-good_symbol.true)
+      | then-not-good_symbol-via-else-not-good_symbol+then-not-good_side w ↦ bad_side _ _ _ (sym w.good_side.ensures ∙ w.if-not-good_side.true)
     ]
 
 pub returns-then-level-eq0 : goal.returns-then-level-eq0
