@@ -8,14 +8,17 @@ use native.Mathlib.Omega.{arith}
 use borrow.Author.Tests.{le-ltb}
 use lib.Dec.{eqb, leb, ltb}
 use lib.ListN.{length}
+use Rattle.std.specs.Prelude.{Result}
+use Rattle.refusals.specs.declared.Refusal.{Refusal}
 use Rattle.wire.specs.Number.{splice}
 use Rattle.wire.proofs.Place.{splice-none}
 use Rattle.merge.specs.State.{apply_up_to, take_all}
 use Rattle.window_taking.specs.Turns.{end_from, packets_from, packets_in}
 use Rattle.session.specs.Meaning.{Held, Meaning, feed, overnight, rep}
-use Rattle.session.specs.Bursts.{rows_of}
+use Rattle.session.specs.Bursts.{count_if, rows_of}
 use Rattle.session.proofs.Calls.{chosen, one_packet, short}
 use Rattle.exports.specs.Handed.{answers_by, bytes_by, most_by, packets_by, short_by, taken_by, taken_told}
+use Rattle.exports.specs.Kept.{count_numbers}
 use Rattle.single.specs.Over.{over}
 
 -- ---- either kind of bytes
@@ -40,7 +43,7 @@ end_by count s false = one_end s
 
 -- ---- the three numbers
 
-three : (b : Bool) (taken bytes : ℕ) (old : List ℕ) → over (cond b 11 0 ∷ cond b 0 taken ∷ cond b 0 bytes ∷ []) old ≡ cond b (over (11 ∷ 0 ∷ 0 ∷ []) old) (over (0 ∷ taken ∷ bytes ∷ []) old)
+three : (fits : Bool) (taken bytes : ℕ) (old : List ℕ) → over (count_numbers (count_if fits (cond (not fits) 0 taken)) (cond (not fits) 0 bytes)) old ≡ cond (not fits) (over (11 ∷ 0 ∷ 0 ∷ []) old) (over (0 ∷ taken ∷ bytes ∷ []) old)
 three true taken bytes old = refl
 three false taken bytes old = refl
 
@@ -80,14 +83,15 @@ module _ (x : Meaning) (single count : ℕ) (s answers : List ℕ) {one : Bool} 
   unfolding end_from
   taken_bytes e = e ∙ by_room (λ (n : ℕ). end_from one n 0 s) refl ∙ ap (cond (short_by single count (length answers)) 0) end
 
-  refused : {refusal : ℕ} → refusal ≡ cond fits 0 11 → refusal ≡ cond (short_by single count (length answers)) 11 0
-  refused e =
-      e ∙ sym (other_way fits 11 0) ∙ ap (λ (b : Bool). cond b 11 0) (sym (short x s answers most test dues))
-      ∙ ap (λ (n : ℕ). cond (ltb (length answers) (4 * n)) 11 0) mosts
+  fitting : short_by single count (length answers) ≡ not fits
+  fitting = ap (λ (n : ℕ). ltb (length answers) (4 * n)) (sym mosts) ∙ short x s answers most test dues
 
-  pub told_all : (old : List ℕ) {refusal taken at : ℕ} → refusal ≡ cond fits 0 11 → taken ≡ length (packets_from one due 0 s) → at ≡ end_from one due 0 s
-      → over (refusal ∷ taken ∷ at ∷ []) old ≡ taken_told single count s (length answers) old
+  pub told_all : (old : List ℕ) {packets : Result ℕ Refusal} {taken at : ℕ} → packets ≡ count_if fits taken → taken ≡ length (packets_from one due 0 s) → at ≡ end_from one due 0 s
+      → over (count_numbers packets at) old ≡ taken_told single count s (length answers) old
   unfolding taken_told
-  told_all old r t e =
-      (λ i. over (refused r i ∷ taken_count t i ∷ taken_bytes e i ∷ []) old)
-      ∙ three (short_by single count (length answers)) (length (packets_by single count s)) (bytes_by single count s) old
+  told_all old p t e =
+      let n = length (packets_by single count s) in
+      let end = bytes_by single count s in
+      (λ i. over (count_numbers ((p ∙ ap (count_if fits) (taken_count t ∙ ap (λ (b : Bool). cond b 0 n) fitting)) i) ((taken_bytes e ∙ ap (λ (b : Bool). cond b 0 end) fitting) i)) old)
+      ∙ three fits n end old
+      ∙ ap (λ (b : Bool). cond b (over (11 ∷ 0 ∷ 0 ∷ []) old) (over (0 ∷ n ∷ end ∷ []) old)) (sym fitting)

@@ -8,6 +8,7 @@
 
 mod kinds;
 pub mod layouts;
+mod making;
 pub mod table;
 mod types;
 

@@ -4,153 +4,116 @@ ghost use Rattle.wire.specs.Layout.{number_is, put_row, text_is, width_of};
 ghost use Rattle.message.specs.Layouts as layouts;
 ghost use Rattle.message.specs.Row.{row_of, row_with, type_of, type_of_terms};
 
+use message::layouts::{
+    AddFields, Deal, ExecutionFields, Named, Quote, SecurityFields, SpinEndFields, SpinStartFields,
+    TopFields, TradeFields, TradingSessionFields, UpdateFields,
+};
 use message::{Body, Message, Terms};
 use message_put_market::{deal, top, trade};
 
 // A Security goes in two halves, which keeps each proof short.
-fn security_front(buf: &mut [u8], at: usize, symbol: [u8; 14], updated: u64, action: u8, class: u8)
+fn security_front(buf: &mut [u8], at: usize, fields: SecurityFields)
     requires { at + width_of (take 4 layouts.security) ≤ length buf.old }
-    ensures { buf.new ≡ put_row (take 4 layouts.security) (text_is symbol ∷ number_is updated ∷ number_is action ∷ number_is class ∷ []) buf.old at }
+    ensures { buf.new ≡ put_row (take 4 layouts.security) (text_is fields.symbol ∷ number_is fields.updated ∷ number_is fields.action ∷ number_is fields.class ∷ []) buf.old at }
 {
-    wire::put_text(buf, at, &symbol);
-    wire::put_u64(buf, at + 14, updated);
-    wire::put_u8(buf, at + 22, action);
-    wire::put_u8(buf, at + 23, class);
+    wire::put_text(buf, at, &fields.symbol);
+    wire::put_u64(buf, at + 14, fields.updated);
+    wire::put_u8(buf, at + 22, fields.action);
+    wire::put_u8(buf, at + 23, fields.class);
 }
 
-fn security_back(
-    buf: &mut [u8],
-    at: usize,
-    security: u32,
-    flags: u16,
-    tier: u8,
-    reporting: u8,
-    status: u8,
-)
+fn security_back(buf: &mut [u8], at: usize, fields: SecurityFields)
     requires { at + width_of (drop 4 layouts.security) ≤ length buf.old }
-    ensures { buf.new ≡ put_row (drop 4 layouts.security) (number_is security ∷ number_is flags ∷ number_is tier ∷ number_is reporting ∷ number_is status ∷ []) buf.old at }
+    ensures { buf.new ≡ put_row (drop 4 layouts.security) (number_is fields.security ∷ number_is fields.flags ∷ number_is fields.tier ∷ number_is fields.reporting ∷ number_is fields.status ∷ []) buf.old at }
 {
-    wire::put_u32(buf, at, security);
-    wire::put_u16(buf, at + 4, flags);
-    wire::put_u8(buf, at + 6, tier);
-    wire::put_u8(buf, at + 7, reporting);
-    wire::put_u8(buf, at + 8, status);
+    wire::put_u32(buf, at, fields.security);
+    wire::put_u16(buf, at + 4, fields.flags);
+    wire::put_u8(buf, at + 6, fields.tier);
+    wire::put_u8(buf, at + 7, fields.reporting);
+    wire::put_u8(buf, at + 8, fields.status);
 }
 
-fn of_security(
-    buf: &mut [u8],
-    at: usize,
-    symbol: [u8; 14],
-    updated: u64,
-    action: u8,
-    class: u8,
-    security: u32,
-    flags: u16,
-    tier: u8,
-    reporting: u8,
-    status: u8,
-)
+fn of_security(buf: &mut [u8], at: usize, fields: SecurityFields)
     requires { at + width_of layouts.security ≤ length buf.old }
-    ensures { buf.new ≡ put_row layouts.security (text_is symbol ∷ number_is updated ∷ number_is action ∷ number_is class ∷ number_is security ∷ number_is flags ∷ number_is tier ∷ number_is reporting ∷ number_is status ∷ []) buf.old at }
+    ensures { buf.new ≡ put_row layouts.security (text_is fields.symbol ∷ number_is fields.updated ∷ number_is fields.action ∷ number_is fields.class ∷ number_is fields.security ∷ number_is fields.flags ∷ number_is fields.tier ∷ number_is fields.reporting ∷ number_is fields.status ∷ []) buf.old at }
 {
-    security_front(buf, at, symbol, updated, action, class);
-    security_back(buf, at + 24, security, flags, tier, reporting, status);
+    security_front(buf, at, fields);
+    security_back(buf, at + 24, fields);
 }
 
-fn spin_start(buf: &mut [u8], at: usize, spin: u8, time: u64, last: u32)
+fn spin_start(buf: &mut [u8], at: usize, fields: SpinStartFields)
     requires { at + width_of layouts.spin_start ≤ length buf.old }
-    ensures { buf.new ≡ put_row layouts.spin_start (number_is spin ∷ number_is time ∷ number_is last ∷ []) buf.old at }
+    ensures { buf.new ≡ put_row layouts.spin_start (number_is fields.spin ∷ number_is fields.time ∷ number_is fields.last ∷ []) buf.old at }
 {
-    wire::put_u8(buf, at, spin);
-    wire::put_u64(buf, at + 1, time);
-    wire::put_u32(buf, at + 9, last);
+    wire::put_u8(buf, at, fields.spin);
+    wire::put_u64(buf, at + 1, fields.time);
+    wire::put_u32(buf, at + 9, fields.last);
 }
 
-fn spin_end(buf: &mut [u8], at: usize, spin: u8, count: u32, time: u64, last: u32)
+fn spin_end(buf: &mut [u8], at: usize, fields: SpinEndFields)
     requires { at + width_of layouts.spin_end ≤ length buf.old }
-    ensures { buf.new ≡ put_row layouts.spin_end (number_is spin ∷ number_is count ∷ number_is time ∷ number_is last ∷ []) buf.old at }
+    ensures { buf.new ≡ put_row layouts.spin_end (number_is fields.spin ∷ number_is fields.count ∷ number_is fields.time ∷ number_is fields.last ∷ []) buf.old at }
 {
-    wire::put_u8(buf, at, spin);
-    wire::put_u32(buf, at + 1, count);
-    wire::put_u64(buf, at + 5, time);
-    wire::put_u32(buf, at + 13, last);
+    wire::put_u8(buf, at, fields.spin);
+    wire::put_u32(buf, at + 1, fields.count);
+    wire::put_u64(buf, at + 5, fields.time);
+    wire::put_u32(buf, at + 13, fields.last);
 }
 
-fn trading_session(buf: &mut [u8], at: usize, time: u64, session: u8)
+fn trading_session(buf: &mut [u8], at: usize, fields: TradingSessionFields)
     requires { at + width_of layouts.trading_session ≤ length buf.old }
-    ensures { buf.new ≡ put_row layouts.trading_session (number_is time ∷ number_is session ∷ []) buf.old at }
+    ensures { buf.new ≡ put_row layouts.trading_session (number_is fields.time ∷ number_is fields.session ∷ []) buf.old at }
 {
-    wire::put_u64(buf, at, time);
-    wire::put_u8(buf, at + 8, session);
+    wire::put_u64(buf, at, fields.time);
+    wire::put_u8(buf, at + 8, fields.session);
 }
 
 // What 21 to 25 begin with, which is all of an Order Delete.
-fn named(buf: &mut [u8], at: usize, time: u32, id: [u8; 14])
+fn named(buf: &mut [u8], at: usize, fields: Named)
     requires { at + width_of layouts.delete ≤ length buf.old }
-    ensures { buf.new ≡ put_row layouts.delete (number_is time ∷ text_is id ∷ []) buf.old at }
+    ensures { buf.new ≡ put_row layouts.delete (number_is fields.time ∷ text_is fields.id ∷ []) buf.old at }
 {
-    wire::put_u32(buf, at, time);
-    wire::put_text(buf, at + 4, &id);
+    wire::put_u32(buf, at, fields.time);
+    wire::put_text(buf, at + 4, &fields.id);
 }
 
-fn add(
-    buf: &mut [u8],
-    at: usize,
-    time: u32,
-    id: [u8; 14],
-    side: u8,
-    quantity: u32,
-    symbol: [u8; 14],
-    price: u64,
-    firm: [u8; 4],
-    unsolicited: u8,
-    flags: u16,
-)
+fn add(buf: &mut [u8], at: usize, fields: AddFields)
     requires { at + width_of layouts.add ≤ length buf.old }
-    ensures { buf.new ≡ put_row layouts.add (number_is time ∷ text_is id ∷ number_is side ∷ number_is quantity ∷ text_is symbol ∷ number_is price ∷ text_is firm ∷ number_is unsolicited ∷ number_is flags ∷ []) buf.old at }
+    ensures { buf.new ≡ put_row layouts.add (number_is fields.named.time ∷ text_is fields.named.id ∷ number_is fields.deal.side ∷ number_is fields.deal.quantity ∷ text_is fields.deal.symbol ∷ number_is fields.deal.price ∷ text_is fields.firm ∷ number_is fields.unsolicited ∷ number_is fields.flags ∷ []) buf.old at }
 {
-    named(buf, at, time, id);
-    deal(buf, at + 18, side, quantity, symbol, price);
-    wire::put_text(buf, at + 45, &firm);
-    wire::put_u8(buf, at + 49, unsolicited);
-    wire::put_u16(buf, at + 50, flags);
+    named(buf, at, fields.named);
+    deal(buf, at + 18, fields.deal);
+    wire::put_text(buf, at + 45, &fields.firm);
+    wire::put_u8(buf, at + 49, fields.unsolicited);
+    wire::put_u16(buf, at + 50, fields.flags);
 }
 
-fn update(buf: &mut [u8], at: usize, time: u32, id: [u8; 14], quantity: u32, price: u64, flags: u16)
+fn update(buf: &mut [u8], at: usize, fields: UpdateFields)
     requires { at + width_of layouts.update ≤ length buf.old }
-    ensures { buf.new ≡ put_row layouts.update (number_is time ∷ text_is id ∷ number_is quantity ∷ number_is price ∷ number_is flags ∷ []) buf.old at }
+    ensures { buf.new ≡ put_row layouts.update (number_is fields.named.time ∷ text_is fields.named.id ∷ number_is fields.quantity ∷ number_is fields.price ∷ number_is fields.flags ∷ []) buf.old at }
 {
-    named(buf, at, time, id);
-    wire::put_u32(buf, at + 18, quantity);
-    wire::put_u64(buf, at + 22, price);
-    wire::put_u16(buf, at + 30, flags);
+    named(buf, at, fields.named);
+    wire::put_u32(buf, at + 18, fields.quantity);
+    wire::put_u64(buf, at + 22, fields.price);
+    wire::put_u16(buf, at + 30, fields.flags);
 }
 
 // An execution, at the published price or, behind the fields of both, at its own.
-fn of_execution(
-    buf: &mut [u8],
-    at: usize,
-    time: u32,
-    id: [u8; 14],
-    executed: u32,
-    remaining: u32,
-    execution: u64,
-    terms: Terms,
-)
+fn of_execution(buf: &mut [u8], at: usize, fields: ExecutionFields, terms: Terms)
     requires { at + width_of (layouts.layout_of (type_of_terms terms)) ≤ length buf.old }
-    ensures { buf.new ≡ put_row (layouts.layout_of (type_of_terms terms)) (row_with id [] [] (Body.Execution time executed remaining execution terms)) buf.old at }
+    ensures { buf.new ≡ put_row (layouts.layout_of (type_of_terms terms)) (row_with fields.named.id [] [] (Body.Execution fields.named.time fields.executed fields.remaining fields.execution terms)) buf.old at }
 {
-    named(buf, at, time, id);
-    wire::put_u32(buf, at + 18, executed);
-    wire::put_u32(buf, at + 22, remaining);
-    wire::put_u64(buf, at + 26, execution);
+    named(buf, at, fields.named);
+    wire::put_u32(buf, at + 18, fields.executed);
+    wire::put_u32(buf, at + 22, fields.remaining);
+    wire::put_u64(buf, at + 26, fields.execution);
     match terms {
         Terms::Published => {}
         Terms::Own(price) => wire::put_u64(buf, at + 34, price),
     }
 }
 
-// The fields of a message by its kind; of 28 and unlisted types there are none.
+// The fields of a message by its kind, an arm each; of 28 and unlisted types there are none.
 pub fn fields(message: Message, buf: &mut [u8], at: usize)
     requires { at + width_of (layouts.layout_of (type_of message)) ≤ length buf.old }
     ensures { buf.new ≡ put_row (layouts.layout_of (type_of message)) (row_of message) buf.old at }
@@ -169,17 +132,40 @@ pub fn fields(message: Message, buf: &mut [u8], at: usize)
             tier,
             reporting,
             status,
-        } => of_security(
-            buf, at, symbol, updated, action, class, security, flags, tier, reporting, status,
-        ),
-        Body::SpinStart { spin, time, last } => spin_start(buf, at, spin, time, last),
+        } => {
+            let fields = SecurityFields {
+                symbol,
+                updated,
+                action,
+                class,
+                security,
+                flags,
+                tier,
+                reporting,
+                status,
+            };
+            of_security(buf, at, fields)
+        }
+        Body::SpinStart { spin, time, last } => {
+            spin_start(buf, at, SpinStartFields { spin, time, last })
+        }
         Body::SpinEnd {
             spin,
             count,
             time,
             last,
-        } => spin_end(buf, at, spin, count, time, last),
-        Body::TradingSession { time, session } => trading_session(buf, at, time, session),
+        } => {
+            let fields = SpinEndFields {
+                spin,
+                count,
+                time,
+                last,
+            };
+            spin_end(buf, at, fields)
+        }
+        Body::TradingSession { time, session } => {
+            trading_session(buf, at, TradingSessionFields { time, session })
+        }
         Body::Add {
             time,
             side,
@@ -187,33 +173,51 @@ pub fn fields(message: Message, buf: &mut [u8], at: usize)
             price,
             unsolicited,
             flags,
-        } => add(
-            buf,
-            at,
-            time,
-            id,
-            side,
-            quantity,
-            symbol,
-            price,
-            firm,
-            unsolicited,
-            flags,
-        ),
+        } => {
+            let fields = AddFields {
+                named: Named { time, id },
+                deal: Deal {
+                    side,
+                    quantity,
+                    symbol,
+                    price,
+                },
+                firm,
+                unsolicited,
+                flags,
+            };
+            add(buf, at, fields)
+        }
         Body::Update {
             time,
             quantity,
             price,
             flags,
-        } => update(buf, at, time, id, quantity, price, flags),
-        Body::Delete { time } => named(buf, at, time, id),
+        } => {
+            let fields = UpdateFields {
+                named: Named { time, id },
+                quantity,
+                price,
+                flags,
+            };
+            update(buf, at, fields)
+        }
+        Body::Delete { time } => named(buf, at, Named { time, id }),
         Body::Execution {
             time,
             executed,
             remaining,
             execution,
             terms,
-        } => of_execution(buf, at, time, id, executed, remaining, execution, terms),
+        } => {
+            let fields = ExecutionFields {
+                named: Named { time, id },
+                executed,
+                remaining,
+                execution,
+            };
+            of_execution(buf, at, fields, terms)
+        }
         Body::Top {
             time,
             ask,
@@ -221,17 +225,22 @@ pub fn fields(message: Message, buf: &mut [u8], at: usize)
             bid,
             bidvolume,
             unsolicited,
-        } => top(
-            buf,
-            at,
-            time,
-            symbol,
-            ask,
-            askvolume,
-            bid,
-            bidvolume,
-            unsolicited,
-        ),
+        } => {
+            let fields = TopFields {
+                time,
+                symbol,
+                ask: Quote {
+                    price: ask,
+                    volume: askvolume,
+                },
+                bid: Quote {
+                    price: bid,
+                    volume: bidvolume,
+                },
+                unsolicited,
+            };
+            top(buf, at, fields)
+        }
         Body::Trade {
             time,
             side,
@@ -239,9 +248,20 @@ pub fn fields(message: Message, buf: &mut [u8], at: usize)
             price,
             execution,
             reserved,
-        } => trade(
-            buf, at, time, side, quantity, symbol, price, execution, reserved,
-        ),
+        } => {
+            let fields = TradeFields {
+                time,
+                deal: Deal {
+                    side,
+                    quantity,
+                    symbol,
+                    price,
+                },
+                execution,
+                reserved,
+            };
+            trade(buf, at, fields)
+        }
         Body::Other(_) => {}
     }
 }

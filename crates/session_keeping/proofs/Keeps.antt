@@ -5,9 +5,12 @@ use mathlib.Core.Bool.{Bool, true, false, cond}
 use mathlib.Core.List.{List, [], ◌∷◌}
 use mathlib.Core.Option.{Option, none, some}
 use Prim.Native.Nat.{ℕ, ◌*◌, ◌/◌, ◌≤◌}
-use borrow.Author.Tests.{eq-eqb, ne_eqb}
 use lib.Dec.{eqb, leb, ltb}
 use lib.ListN.{length, set}
+use lib.Seq.{set-get_or}
+use Rattle.std.specs.Prelude.{Result, Ok, Err}
+use Rattle.refusals.specs.Refusals.{refusal_by}
+use Rattle.refusals.specs.declared.Refusal.{Refusal}
 use Rattle.wire.specs.Number.{Bytes, splice}
 use Rattle.wire.proofs.Place.{splice-none}
 use Rattle.merge.specs.State as merge
@@ -18,17 +21,16 @@ use Rattle.book.specs.Tables.{Tables}
 use Rattle.book_room.specs.Room.{parts_of, room_of}
 use Rattle.window_taking.specs.Keeping.{Known, Neat, admitted_of, fresh_by, held_by, kept_all, kept_by, state_of, window_for}
 use Rattle.window_taking.specs.Taking.{judge, take_tests}
-use Rattle.window_taking.specs.Turns.{packets_from, packets_in}
+use Rattle.window_taking.specs.Turns.{end_by, packets_from, packets_in}
 use Rattle.window_taking.specs.declared.admitting.Admitted.{Admitted}
+use Rattle.window_taking.proofs.Answered.{end_told}
 use Rattle.window_keeping.specs.Keeping.{kept_rows}
 use Rattle.session.specs.Asking.{line_in}
 use Rattle.session.specs.Meaning.{AllBytes, CallsBytes, Held, Meaning, Ruled, end_in, held, next_in, overnight, rep, view}
 use Rattle.session.proofs.Calls.{chosen, packets_bytes, rule_of}
 use Rattle.session.proofs.Runs.{as_state, bare, bare-judge, kept_next, state_known}
 use Rattle.session.proofs.States.{meaning, neat, ruled_calls, stands}
-use Rattle.session_keeping.specs.Keeping.{answers_kept, burst_kept, kept_answer, kept_of}
-use Rattle.session_keeping.specs.declared.keeping.Kept.{Kept}
-use Rattle.session_keeping.specs.declared.keeping.Kept.TheVariants.{Fresh, Refused}
+use Rattle.session_keeping.specs.Keeping.{answers_kept, burst_kept, kept_of}
 
 -- ---- on the window alone, and on the whole session
 
@@ -114,36 +116,58 @@ module _ {h : Held} (rule : Ruled h) where
     all_ruled bytes = rule_of all_held (ruled_calls rule (keeps_of ps) (keeps_bytes ps bytes))
 
   -- one packet
-  module _ (s : List ℕ) {admitted : Admitted} {w' : List ℕ} (told : admitted ≡ admitted_of false (line_in h.room h.window) s)
+  module _ (s : List ℕ) {answer : Result Admitted Refusal} {w' : List ℕ} (told : answer ≡ admitted_of false (line_in h.room h.window) s)
       (kept : w' ≡ window_for (held_by false (line_in h.room h.window) s).waiting (next_in h.room)) where
-    end_one : admitted.end ≡ (kept_all (line_in h.room h.window) (s ∷ [])).end
-    unfolding kept_all admitted_of
-    end_one = ap (λ (a : Admitted). a.end) told
+    end_one : end_by (end_in h.room) answer ≡ (kept_all (line_in h.room h.window) (s ∷ [])).end
+    unfolding kept_all
+    end_one = ap (end_by (end_in h.room)) told ∙ end_told false (line_in h.room h.window) s
 
     window_one : w' ≡ window_for (kept_all (line_in h.room h.window) (s ∷ [])).waiting (next_in h.room)
     unfolding kept_all held_by
     window_one = kept
 
-    pub one_held : held h.session (set h.room 1 admitted.end) w' ≡ rep (keep_one overnight (view h) s)
+    -- end is written, where it is taken
+    one_held : held h.session (set h.room 1 (end_by (end_in h.room) answer)) w' ≡ rep (keep_one overnight (view h) s)
     unfolding call_all call_one keeps_of
     one_held = all_held (s ∷ []) end_one window_one
 
-    pub one_ruled : Bytes s → Ruled (held h.session (set h.room 1 admitted.end) w')
-    one_ruled bytes = all_ruled (s ∷ []) end_one window_one (bytes, tt)
+    pub one_taken : {admitted : Admitted} → answer ≡ Ok admitted → held h.session (set h.room 1 admitted.end) w' ≡ rep (keep_one overnight (view h) s)
+    one_taken e = ap (λ (a : Result Admitted Refusal). held h.session (set h.room 1 (end_by (end_in h.room) a)) w') (sym e) ∙ one_held
+
+    pub one_refused : {refusal : Refusal} → answer ≡ Err refusal → held h.session h.room w' ≡ rep (keep_one overnight (view h) s)
+    one_refused e =
+        ap (λ (l : List ℕ). held h.session l w') (sym (set-get_or h.room 1 0))
+        ∙ ap (λ (a : Result Admitted Refusal). held h.session (set h.room 1 (end_by (end_in h.room) a)) w') (sym e)
+        ∙ one_held
+
+  pub one_ruled : (s : List ℕ) → Bytes s → {after : Held} → after ≡ rep (keep_one overnight (view h) s) → Ruled after
+  unfolding call_all call_one keeps_of
+  one_ruled s bytes is = rule_of is (ruled_calls rule (keeps_of (s ∷ [])) (bytes, tt))
 
 -- ---- the answers
 
-pub answer_fresh : (fresh refusal : ℕ) → refusal ≡ 0 → Fresh fresh ≡ kept_answer fresh refusal
-unfolding kept_answer
-answer_fresh fresh refusal e = sym (ap (λ (b : Bool). cond b (Fresh fresh) (Refused refusal)) (eq-eqb refusal 0 e))
+told_by : Result Admitted Refusal → Result ℕ Refusal
+told_by (Ok admitted) = Ok admitted.fresh
+told_by (Err refusal) = Err refusal
 
-pub answer_refused : (fresh refusal : ℕ) → (refusal ≡ 0 → ⊥) → Refused refusal ≡ kept_answer fresh refusal
-unfolding kept_answer
-answer_refused fresh refusal e = sym (ap (λ (b : Bool). cond b (Fresh fresh) (Refused refusal)) (ne_eqb refusal 0 e))
+module _ {T : Type 0} (x : merge.State (List ℕ) T) (s : List ℕ) where
+  as_kept : told_by (admitted_of false x s) ≡ kept_of x s
+  unfolding told_by admitted_of
+  as_kept = go (eqb (decided (take_tests x s)).0 0)
+    where
+      go : (b : Bool) → told_by (cond b (Ok (record { end = (kept_by x s).end; direct = 0; fresh = fresh_by x s })) (Err (refusal_by (decided (take_tests x s)).0)))
+          ≡ cond b (Ok (fresh_by x s)) (Err (refusal_by (decided (take_tests x s)).0))
+      go true = refl
+      go false = refl
 
-pub answer_told : {T : Type 0} (x : merge.State (List ℕ) T) (s : List ℕ) {a : Admitted} {r : Kept} → a ≡ admitted_of false x s → r ≡ kept_answer a.fresh a.refusal → r ≡ kept_of x s
-unfolding admitted_of
-answer_told x s told is = is ∙ (λ i. kept_answer (told i).fresh (told i).refusal)
+  module _ {answer : Result Admitted Refusal} (told : answer ≡ admitted_of false x s) where
+    pub answer_fresh : {admitted : Admitted} → answer ≡ Ok admitted → Ok admitted.fresh ≡ kept_of x s
+    unfolding told_by
+    answer_fresh e = ap told_by (sym e ∙ told) ∙ as_kept
+
+    pub answer_refused : {refusal : Refusal} → answer ≡ Err refusal → Err refusal ≡ kept_of x s
+    unfolding told_by
+    answer_refused e = ap told_by (sym e ∙ told) ∙ as_kept
 
 -- ---- a burst
 

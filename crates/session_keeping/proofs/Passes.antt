@@ -9,6 +9,8 @@ use native.Mathlib.Omega.{arith}
 use borrow.Author.Tests.{eq-eqb, le-leb, lt-leb, ltb-false, ne_eqb}
 use lib.Dec.{eqb, leb, ltb}
 use lib.ListN.{length, length-map}
+use Rattle.std.specs.Prelude.{Result, Ok}
+use Rattle.refusals.specs.declared.Refusal.{Refusal}
 use Rattle.wire.specs.Number.{Bytes, part}
 use Rattle.merge.specs.History.{Carries}
 use Rattle.merge.specs.State.{Packet, apply_up_to, call_all, call_one, copy_of, first_there, heartbeat, is_there, keep, keep_one, kept_if, packet, take_if, take_one}
@@ -28,8 +30,6 @@ use Rattle.session.specs.Meaning.{Held, Meaning, Ruled, feed, next_in, overnight
 use Rattle.session.proofs.States.{meaning, stands}
 use Rattle.session_keeping.specs.Keeping.{kept_of}
 use Rattle.session_keeping.specs.Passing.{applies_at, carries_at, pass_on, passed_by, passed_of}
-use Rattle.session_keeping.specs.declared.keeping.Kept.{Kept}
-use Rattle.session_keeping.specs.declared.passing.Passed.{Passed}
 use Rattle.session_keeping.specs.declared.passing.Passed.TheVariants as passed
 
 -- ---- the header's numbers
@@ -144,10 +144,10 @@ module _ {h : Held} (rule : Ruled h) (s : List ℕ) where
   kept_over e is = is ∙ ap rep (sym (passes_over (view h) s e) ∙ sym (ap (λ (b : Bool). cond b (view h) (take_one overnight (view h) s)) e))
 
 -- the answer
-pub told_applies : (room window s : List ℕ) → applies_at (next_in room) (waiting_of window (next_in room)) s ≡ true → passed.Applies ≡ passed_of (line_in room window) s
+pub told_applies : (room window s : List ℕ) → applies_at (next_in room) (waiting_of window (next_in room)) s ≡ true → Ok passed.Applies ≡ passed_of (line_in room window) s
 unfolding passed_of
-told_applies room window s e = sym (ap (λ (b : Bool). cond b passed.Applies (passed_by (kept_of (line_in room window) s))) e)
+told_applies room window s e = sym (ap (λ (b : Bool). cond b (Ok passed.Applies) (passed_by (kept_of (line_in room window) s))) e)
 
-pub told_passed : (room window s : List ℕ) → applies_at (next_in room) (waiting_of window (next_in room)) s ≡ false → {r : Passed} {k : Kept} → k ≡ kept_of (line_in room window) s → r ≡ passed_by k → r ≡ passed_of (line_in room window) s
+pub told_passed : (room window s : List ℕ) → applies_at (next_in room) (waiting_of window (next_in room)) s ≡ false → {k : Result ℕ Refusal} → k ≡ kept_of (line_in room window) s → passed_by k ≡ passed_of (line_in room window) s
 unfolding passed_of
-told_passed room window s e is told = told ∙ ap passed_by is ∙ sym (ap (λ (b : Bool). cond b passed.Applies (passed_by (kept_of (line_in room window) s))) e)
+told_passed room window s e is = ap passed_by is ∙ sym (ap (λ (b : Bool). cond b (Ok passed.Applies) (passed_by (kept_of (line_in room window) s))) e)

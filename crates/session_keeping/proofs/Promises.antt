@@ -9,6 +9,12 @@ use native.Mathlib.Omega.{arith}
 use borrow.Author.Tests.{eq-eqb, eqb-false, eqb-true, leb-true, ne_eqb}
 use lib.Dec.{eqb, leb}
 use lib.ListN.{length-map}
+use Rattle.std.specs.Prelude.{Result, Ok, Err}
+use Rattle.std.specs.Result.{is_ok, result_unwrap_or}
+use Rattle.std.proofs.lemmas.Bool.{false≢true}
+use Rattle.refusals.specs.Refusals.{answered, refusal_by, refusal_in}
+use Rattle.refusals.specs.declared.Refusal.{Refusal}
+use Rattle.refusals.specs.declared.Refusal.TheVariants.{TooFarAhead}
 use Rattle.wire.specs.Number.{Bytes}
 use Rattle.merge.specs.State as merge
 use Rattle.merge.specs.State.{Call, Packet, apply_some, apply_up_to, applying, call_all, call_one, end_of, fresh_if, fresh_in, heartbeat, keep, keep_one, keeping, kept_if, lowest_in, opened, step, take_if, take_one}
@@ -21,45 +27,33 @@ use Rattle.packet.specs.Header.{Test, decided, header_in}
 use Rattle.packet.specs.Judging.{packet_tests, unless_heartbeat}
 use Rattle.window_taking.specs.Taking.{bytes_at, differ_from, frames_in, is_some, judge, nine, or_zero, packet_in, take_tests, wait_tests}
 use Rattle.window_taking.specs.Keeping.{fresh_by}
+use Rattle.window_taking.proofs.Answered.{answered_number, test_most}
 use Rattle.window_taking.proofs.Keeps.{same-fresh}
 use Rattle.session.specs.Asking.{line_in}
 use Rattle.window_taking.proofs.Accepted.{length_frames, never_nine, overnight-judged, overnight_past}
 use Rattle.session.specs.Meaning.{Held, Ruled, Meaning, feed, overnight, rep, view}
-use Rattle.session.specs.Bursts.{answered, applied_of, refusal_of}
-use Rattle.session.specs.declared.packets.Answer.TheVariants.{Applied, Refused}
-use Rattle.session.specs.declared.packets.Answer.{Answer}
+use Rattle.session.specs.Bursts.{applied_of, refusal_of}
 use Rattle.session.proofs.Calls.{both, few, packet_small}
 use Rattle.session.specs.Engine.{Good}
 use Rattle.session.proofs.States.{good_apply, good_kept, good_one, meaning, ruled_rule, stands, view-rep}
-use Rattle.session_keeping.specs.Keeping.{kept_answer, kept_of}
-use Rattle.session_keeping.specs.declared.keeping.Kept as keeping
-use Rattle.session_keeping.specs.declared.keeping.Kept.{Kept}
-use Rattle.session_keeping.specs.declared.keeping.Kept.TheVariants as kept
 use Rattle.session_keeping.proofs.Given.{AppliedSome, KeptOne, Took, applied-is, applied_told, kept_one_is, kept_one_told, took_answer, took_is}
 
 -- ---- what an answer tells
 
-applied_by : (applied refusal : ℕ) {n : ℕ} → answered applied refusal ≡ Applied n → (refusal ≡ 0) × (n ≡ applied)
-unfolding answered
-applied_by applied refusal {n} e = go (eqb refusal 0) refl
-  where
-    go : (b : Bool) → eqb refusal 0 ≡ b → (refusal ≡ 0) × (n ≡ applied)
-    go true t = let f : Applied applied ≡ Applied n = simp t at e in (eqb-true refusal 0 t, cc)
-    go false t =
-        let f : Refused refusal ≡ Applied n = simp t at e in
-        let z : ◌≡◌ {A = ℕ} 0 1 = cc in
-        absurd (omega arith)
+-- by the number of the test that decides
+module _ (n a : ℕ) where
+  ok_by : {b : ℕ} → answered n a ≡ Ok b → (n ≡ 0) × (b ≡ a)
+  ok_by {b} e = go (eqb n 0) refl e
+    where
+      go : (c : Bool) → eqb n 0 ≡ c → cond c (Ok a) (Err (refusal_by n)) ≡ Ok b → (n ≡ 0) × (b ≡ a)
+      go true t f = (eqb-true n 0 t, sym (ap (λ r. result_unwrap_or r a) f))
+      go false t f = absurd (false≢true (ap is_ok f))
 
-refused_by : (applied refusal : ℕ) {n : ℕ} → answered applied refusal ≡ Refused n → (refusal ≡ 0 → ⊥) × (n ≡ refusal)
-unfolding answered
-refused_by applied refusal {n} e = go (eqb refusal 0) refl
-  where
-    go : (b : Bool) → eqb refusal 0 ≡ b → (refusal ≡ 0 → ⊥) × (n ≡ refusal)
-    go true t =
-        let f : Applied applied ≡ Refused n = simp t at e in
-        let z : ◌≡◌ {A = ℕ} 0 1 = cc in
-        absurd (omega arith)
-    go false t = let f : Refused refusal ≡ Refused n = simp t at e in (eqb-false refusal 0 t, cc)
+  err_by : {refusal : Refusal} → answered n a ≡ Err refusal → n ≡ 0 → ⊥
+  err_by e z = false≢true (ap is_ok (sym e ∙ ap (λ m. answered m a) z))
+
+  nine_by : n ≤ 14 → answered n a ≡ Err TooFarAhead → n ≡ 9
+  nine_by most e = sym (answered_number n a most) ∙ ap refusal_in e
 
 -- ---- 9 is the first test behind 1 to 8
 
@@ -103,11 +97,11 @@ end_is s e =
     ap (λ (b : Bool). end_of (cond {A = Packet (List ℕ)} b (heartbeat (header_in s).seq) (merge.packet (header_in s).seq (map (bytes_at s) (frames_in s))))) e
     ∙ ap (λ (n : ℕ). (header_in s).seq + n) (length-map (frames_in s) (bytes_at s) ∙ length_frames (header_in s).messages 12 s)
 
-module _ {s t : Held} {packet : List ℕ} {answer : Answer} (rule : Ruled s) (bytes : Bytes packet) (call : Took s packet t answer) where
+module _ {s t : Held} {packet : List ℕ} {answer : Result ℕ Refusal} (rule : Ruled s) (bytes : Bytes packet) (call : Took s packet t answer) where
   session_is : t ≡ rep (take_one overnight (view s) packet)
   session_is = took_is call
 
-  answer_is : answer ≡ answered (applied_of (view s) packet) (refusal_of (view s) packet)
+  answer_is : answer ≡ answered (refusal_of (view s) packet) (applied_of (view s) packet)
   answer_is = took_answer call
 
   good : Good (view s)
@@ -116,48 +110,48 @@ module _ {s t : Held} {packet : List ℕ} {answer : Answer} (rule : Ruled s) (by
   behind : view t ≡ take_one overnight (view s) packet
   behind = ap view session_is ∙ view-rep (good_one good packet bytes)
 
-  accepted-is : {n : ℕ} → answer ≡ Applied n → judge (view s) packet ≡ some (packet_in packet)
+  accepted-is : {n : ℕ} → answer ≡ Ok n → judge (view s) packet ≡ some (packet_in packet)
   unfolding judge
   accepted-is e =
       ap (λ (b : Bool). cond b (some (packet_in packet)) none)
-      (eq-eqb (refusal_of (view s) packet) 0 (applied_by (applied_of (view s) packet) (refusal_of (view s) packet) (sym answer_is ∙ e)).0)
+      (eq-eqb (refusal_of (view s) packet) 0 (ok_by (refusal_of (view s) packet) (applied_of (view s) packet) (sym answer_is ∙ e)).0)
 
-  refused-is : {n : ℕ} → answer ≡ Refused n → judge (view s) packet ≡ none
+  refused-is : {refusal : Refusal} → answer ≡ Err refusal → judge (view s) packet ≡ none
   unfolding judge
   refused-is e =
       ap (λ (b : Bool). cond b (some (packet_in packet)) none)
-      (ne_eqb (refusal_of (view s) packet) 0 (refused_by (applied_of (view s) packet) (refusal_of (view s) packet) (sym answer_is ∙ e)).0)
+      (ne_eqb (refusal_of (view s) packet) 0 (err_by (refusal_of (view s) packet) (applied_of (view s) packet) (sym answer_is ∙ e)))
 
   -- A packet that starts at or below next never meets 9.
-  pub low_start_no_nine : (header_in packet).seq ≤ (view s).next → answer ≡ Refused 9 → ⊥
+  pub low_start_no_nine : (header_in packet).seq ≤ (view s).next → answer ≡ Err TooFarAhead → ⊥
   low_start_no_nine low e =
-      not-nine (view s) packet (never_nine (view s) packet bytes low) (sym (refused_by (applied_of (view s) packet) (refusal_of (view s) packet) (sym answer_is ∙ e)).1)
+      not-nine (view s) packet (never_nine (view s) packet bytes low) (nine_by (refusal_of (view s) packet) (applied_of (view s) packet) (test_most (view s) packet) (sym answer_is ∙ e))
 
-  past_end : {n : ℕ} → (header_in packet).seq ≤ (view s).next → answer ≡ Applied n → end_of (packet_in packet) ≤ (view t).next
+  past_end : {n : ℕ} → (header_in packet).seq ≤ (view s).next → answer ≡ Ok n → end_of (packet_in packet) ≤ (view t).next
   past_end low e =
       let start : (packet_in packet).first ≤ (view s).next = omega (arith, first_is packet) in
       subst (λ (x : Meaning). end_of (packet_in packet) ≤ x.next) (sym behind) (overnight_past feed rule.number packet (ruled_rule rule) (accepted-is e) start)
 
   -- Accepted, it leaves next past its last number, SeqNum + Messages - 1: next moves, if that number was not below it.
-  pub low_start_past : {n : ℕ} → header.heartbeat (header_in packet).flag ≡ false → (header_in packet).seq ≤ (view s).next → answer ≡ Applied n
+  pub low_start_past : {n : ℕ} → header.heartbeat (header_in packet).flag ≡ false → (header_in packet).seq ≤ (view s).next → answer ≡ Ok n
       → (header_in packet).seq + (header_in packet).messages ≤ (view t).next
   low_start_past some-message low e = subst (λ (k : ℕ). k ≤ (view t).next) (end_is packet some-message) (past_end low e)
 
   -- How many were applied: new next less old.
-  pub applied-count : {n : ℕ} → answer ≡ Applied n → n ≡ (view t).next - (view s).next
+  pub applied-count : {n : ℕ} → answer ≡ Ok n → n ≡ (view t).next - (view s).next
   applied-count e =
-      (applied_by (applied_of (view s) packet) (refusal_of (view s) packet) (sym answer_is ∙ e)).1
+      (ok_by (refusal_of (view s) packet) (applied_of (view s) packet) (sym answer_is ∙ e)).1
       ∙ ap (λ (x : Meaning). x.next - (view s).next) (sym behind)
 
   -- A refusal changes nothing, end included.
-  pub refusal_changes_nothing : {n : ℕ} → answer ≡ Refused n → t ≡ s
+  pub refusal_changes_nothing : {refusal : Refusal} → answer ≡ Err refusal → t ≡ s
   refusal_changes_nothing e =
       session_is
       ∙ ap rep (take-refused overnight 0 (view s) packet (refused-is e) ∙ meaning (stands rule))
       ∙ sym (stands rule).same
 
   -- An accepted heartbeat raises end to its SeqNum if that is larger; what waits from next on is then applied.
-  pub heartbeat_raises_end : {n : ℕ} → header.heartbeat (header_in packet).flag ≡ true → answer ≡ Applied n
+  pub heartbeat_raises_end : {n : ℕ} → header.heartbeat (header_in packet).flag ≡ true → answer ≡ Ok n
       → view t ≡ apply_up_to feed 256 (record { next = (view s).next; end = max (view s).end (header_in packet).seq; waiting = (view s).waiting; tables = (view s).tables })
   unfolding take_one take_if packet_in
   heartbeat_raises_end beats e =
@@ -167,32 +161,10 @@ module _ {s t : Held} {packet : List ℕ} {answer : Answer} (rule : Ruled s) (by
 
 -- ---- keeping
 
-fresh_by_lem : (fresh refusal : ℕ) {n : ℕ} → kept_answer fresh refusal ≡ kept.Fresh n → (refusal ≡ 0) × (n ≡ fresh)
-unfolding kept_answer
-fresh_by_lem fresh refusal {n} e = go (eqb refusal 0) refl
-  where
-    go : (b : Bool) → eqb refusal 0 ≡ b → (refusal ≡ 0) × (n ≡ fresh)
-    go true t = let f : kept.Fresh fresh ≡ kept.Fresh n = simp t at e in (eqb-true refusal 0 t, cc)
-    go false t =
-        let f : kept.Refused refusal ≡ kept.Fresh n = simp t at e in
-        let z : ◌≡◌ {A = ℕ} 0 1 = cc in
-        absurd (omega arith)
-
-not_kept_by : (fresh refusal : ℕ) {n : ℕ} → kept_answer fresh refusal ≡ kept.Refused n → (refusal ≡ 0 → ⊥) × (n ≡ refusal)
-unfolding kept_answer
-not_kept_by fresh refusal {n} e = go (eqb refusal 0) refl
-  where
-    go : (b : Bool) → eqb refusal 0 ≡ b → (refusal ≡ 0 → ⊥) × (n ≡ refusal)
-    go true t =
-        let f : kept.Fresh fresh ≡ kept.Refused n = simp t at e in
-        let z : ◌≡◌ {A = ℕ} 0 1 = cc in
-        absurd (omega arith)
-    go false t = let f : kept.Refused refusal ≡ kept.Refused n = simp t at e in (eqb-false refusal 0 t, cc)
-
-module _ {s t : Held} {packet : List ℕ} {said : Kept} (rule : Ruled s) (bytes : Bytes packet) (call : KeptOne s packet t said) where
-  said_is : said ≡ kept_answer (fresh_by (view s) packet) (refusal_of (view s) packet)
+module _ {s t : Held} {packet : List ℕ} {said : Result ℕ Refusal} (rule : Ruled s) (bytes : Bytes packet) (call : KeptOne s packet t said) where
+  said_is : said ≡ answered (refusal_of (view s) packet) (fresh_by (view s) packet)
   unfolding take_tests judge
-  said_is = kept_one_told call ∙ ap (λ (n : ℕ). kept_answer n (refusal_of (view s) packet)) (go (judge (view s) packet))
+  said_is = kept_one_told call ∙ ap (answered (refusal_of (view s) packet)) (go (judge (view s) packet))
     where
       go : (o : Option (Packet (List ℕ))) → fresh_if (line_in s.room s.window) o ≡ fresh_if (view s) o
       go none = refl
@@ -205,17 +177,17 @@ module _ {s t : Held} {packet : List ℕ} {said : Kept} (rule : Ruled s) (bytes 
   unfolding keep_one
   kept_behind = ap view (kept_one_is rule call) ∙ view-rep (good_kept kept_good packet bytes)
 
-  kept_accepted : {n : ℕ} → said ≡ kept.Fresh n → judge (view s) packet ≡ some (packet_in packet)
+  kept_accepted : {n : ℕ} → said ≡ Ok n → judge (view s) packet ≡ some (packet_in packet)
   unfolding judge
   kept_accepted e =
       ap (λ (b : Bool). cond b (some (packet_in packet)) none)
-      (eq-eqb (refusal_of (view s) packet) 0 (fresh_by_lem (fresh_by (view s) packet) (refusal_of (view s) packet) (sym said_is ∙ e)).0)
+      (eq-eqb (refusal_of (view s) packet) 0 (ok_by (refusal_of (view s) packet) (fresh_by (view s) packet) (sym said_is ∙ e)).0)
 
-  kept_refused : {n : ℕ} → said ≡ kept.Refused n → judge (view s) packet ≡ none
+  kept_refused : {refusal : Refusal} → said ≡ Err refusal → judge (view s) packet ≡ none
   unfolding judge
   kept_refused e =
       ap (λ (b : Bool). cond b (some (packet_in packet)) none)
-      (ne_eqb (refusal_of (view s) packet) 0 (not_kept_by (fresh_by (view s) packet) (refusal_of (view s) packet) (sym said_is ∙ e)).0)
+      (ne_eqb (refusal_of (view s) packet) 0 (err_by (refusal_of (view s) packet) (fresh_by (view s) packet) (sym said_is ∙ e)))
 
   -- Keeping leaves next where it is, and the tables.
   pub keeping_stands : ((view t).next ≡ (view s).next) × ((view t).tables ≡ (view s).tables)
@@ -224,18 +196,18 @@ module _ {s t : Held} {packet : List ℕ} {said : Kept} (rule : Ruled s) (bytes 
       (ap (λ (x : Meaning). x.next) kept_behind ∙ stand.0, ap (λ (x : Meaning). x.tables) kept_behind ∙ stand.1)
 
   -- It answers how many numbers of the packet now wait that did not before.
-  pub keeping_counts : {n : ℕ} → said ≡ kept.Fresh n → n ≡ fresh_in (view s) (packet_in packet)
+  pub keeping_counts : {n : ℕ} → said ≡ Ok n → n ≡ fresh_in (view s) (packet_in packet)
   keeping_counts e =
-      (fresh_by_lem (fresh_by (view s) packet) (refusal_of (view s) packet) (sym said_is ∙ e)).1
+      (ok_by (refusal_of (view s) packet) (fresh_by (view s) packet) (sym said_is ∙ e)).1
       ∙ ap (fresh_if (view s)) (kept_accepted e)
 
   -- A packet that starts at or below next never meets 9.
-  pub keeping_no_nine : (header_in packet).seq ≤ (view s).next → said ≡ kept.Refused 9 → ⊥
+  pub keeping_no_nine : (header_in packet).seq ≤ (view s).next → said ≡ Err TooFarAhead → ⊥
   keeping_no_nine low e =
-      not-nine (view s) packet (never_nine (view s) packet bytes low) (sym (not_kept_by (fresh_by (view s) packet) (refusal_of (view s) packet) (sym said_is ∙ e)).1)
+      not-nine (view s) packet (never_nine (view s) packet bytes low) (nine_by (refusal_of (view s) packet) (fresh_by (view s) packet) (test_most (view s) packet) (sym said_is ∙ e))
 
   -- Accepted, it moves the lowest number not carried past its last number, SeqNum + Messages - 1.
-  pub keeping_past : {n : ℕ} → header.heartbeat (header_in packet).flag ≡ false → (header_in packet).seq ≤ (view s).next → said ≡ kept.Fresh n
+  pub keeping_past : {n : ℕ} → header.heartbeat (header_in packet).flag ≡ false → (header_in packet).seq ≤ (view s).next → said ≡ Ok n
       → (header_in packet).seq + (header_in packet).messages ≤ lowest_in 256 (view t)
   unfolding keep_one kept_if
   keeping_past some-message low e =
@@ -247,14 +219,14 @@ module _ {s t : Held} {packet : List ℕ} {said : Kept} (rule : Ruled s) (bytes 
       subst (λ (k : ℕ). k ≤ lowest_in 256 (view t)) (end_is packet some-message) (subst (λ (x : Meaning). end_of p ≤ lowest_in 256 x) is past)
 
   -- A refusal changes nothing, end included.
-  pub keeping_refused : {n : ℕ} → said ≡ kept.Refused n → t ≡ s
+  pub keeping_refused : {refusal : Refusal} → said ≡ Err refusal → t ≡ s
   keeping_refused e =
       kept_one_is rule call
       ∙ ap rep (keep-refused overnight 0 (view s) packet (kept_refused e) ∙ meaning (stands rule))
       ∙ sym (stands rule).same
 
   -- An accepted heartbeat raises end to its SeqNum if that is larger, and does nothing else.
-  pub keeping_heartbeat : {n : ℕ} → header.heartbeat (header_in packet).flag ≡ true → said ≡ kept.Fresh n
+  pub keeping_heartbeat : {n : ℕ} → header.heartbeat (header_in packet).flag ≡ true → said ≡ Ok n
       → view t ≡ record { next = (view s).next; end = max (view s).end (header_in packet).seq; waiting = (view s).waiting; tables = (view s).tables }
   unfolding keep_one kept_if packet_in
   keeping_heartbeat beats e =

@@ -13,6 +13,7 @@ use Rattle.merge.specs.History.{accepted, applied, first_copy, running, tables_o
 use Rattle.merge.proofs.Demand3.{call_more}
 use Rattle.book.specs.Applying.{apply_of, carried, effect_in, faulted, is_apart, is_listed, message_in}
 use Rattle.message.specs.Layouts.{type_in}
+use Rattle.book.specs.Reasons.{reason_number}
 use Rattle.book.specs.Tables.{Tables, fresh}
 use Rattle.book.specs.declared.tables.Faults.{Faults}
 use Rattle.book.specs.declared.tables.OpeningRule.{OpeningRule}
@@ -63,7 +64,7 @@ apply_stood t number s = go (effect_in t s)
     go Enter = stood t.faults
     go (Record code) = stood t.faults
     go Unchanged = stood t.faults
-    go (Fault reason) = fault_stood t.faults number reason
+    go (Fault reason) = fault_stood t.faults number (reason_number reason)
     go CountApart = stood t.faults
 
 pub faults_stand : {rule : OpeningRule} {n : ℕ} → n ≤ 4294967295 → {calls : List (Call (List ℕ))} (more : List (Call (List ℕ))) {s t : Held} → Given rule n calls s → Given rule n (calls ++ more) t

@@ -50,11 +50,7 @@ pub fn fetch(text: &mut [u8; PLACE], window: &Window, rest: PacketRest, place: u
         return;
     }
     let start = place * PLACE;
-    let mut k: usize = 0;
-    while k < PLACE {
-        text[k] = window[start + k];
-        k += 1;
-    }
+    text.copy_from_slice(&window[start..start + PLACE]);
 }
 
 pub fn free(window: &mut Window, rest: PacketRest, place: usize)

@@ -1,65 +1,54 @@
--- Comparing byte by byte, from where the comparison is.
+-- Parts of bytes as a slice lends them: compared, and put at a place.
 -- Assumes nothing.
-use mathlib.Core.Path.{◌≡◌, refl, ap, ap₂, sym}
-use mathlib.Core.List.{List, ◌∷◌}
-use Prim.Native.Nat.{ℕ, zero, suc, ◌+◌, ◌-◌, ◌≤◌, ◌<◌}
-use native.Mathlib.Nat.{add-zero}
+use mathlib.Core.Path.{◌≡◌, refl, ap, ◌∙◌, sym, subst}
+use mathlib.Core.Bool.{Bool, true, false, cond, ◌&&◌}
+use mathlib.Core.List.{List, [], ◌∷◌}
+use Prim.Native.Nat.{ℕ, suc, ◌+◌, ◌-◌, ◌≤◌}
 use native.Mathlib.Omega.{arith}
-use borrow.Author.Tests.{eq-eqb, ne_eqb}
-use lib.ListN.{drop, get_or, length, take}
-use Rattle.wire.specs.Number.{behind, part}
+use borrow.Rule.Slice.PartMut.{put_mid}
+use borrow.Author.Tests.{eq-eqb, eqb-false, eqb-true, ne_eqb}
+use lib.Dec.{eqb}
+use lib.ListN.{drop, length, take}
+use lib.Pointwise.{pointwise}
+use Rattle.wire.specs.Number.{part, splice}
+use Rattle.wire.proofs.Parts.{part_long}
 use Rattle.wire.proofs.Place.{part-is}
+use Rattle.wire.proofs.Splice.{replaced}
 use Rattle.window.specs.Window.{agreeing}
-
--- the bytes behind the first
-shifted : (s : List ℕ) (at k j w : ℕ) → behind s at (k + j) w ≡ behind s (at + k) j w
-shifted s at k j zero = refl
-shifted s at k j (suc w) =
-    let e : at + (k + j) ≡ at + k + j = omega arith in
-    let f : suc (k + j) ≡ k + suc j = omega arith in
-    rw (e, f, shifted s at k (suc j) w)
-
-rest : (s : List ℕ) (at w : ℕ) → behind s at 1 w ≡ part s (at + 1) w
-rest s at zero = refl
-rest s at (suc w) = ap (λ (l : List ℕ). get_or s (at + 1) 0 ∷ l) (shifted s at 1 1 w)
-
--- what agrees from the k-th byte on
-pub from : List ℕ → ℕ → List ℕ → ℕ → ℕ → ℕ → ℕ
-from w start s at size k = agreeing (part w (start + k) (size - k)) (part s (at + k) (size - k))
-
-module _ (w : List ℕ) (start : ℕ) (s : List ℕ) (at size : ℕ) where
-  pub from_start : agreeing (part w start size) (part s at size) ≡ 0 + from w start s at size 0
-  unfolding from
-  from_start =
-      let e : start + 0 ≡ start = add-zero start in
-      let f : at + 0 ≡ at = add-zero at in
-      let g : size - 0 ≡ size = omega arith in
-      rw (e, f, g) (omega arith)
-
-  pub from_end : (k : ℕ) → size ≤ k → from w start s at size k ≡ 0
-  unfolding from agreeing
-  from_end k h =
-      let g : size - k ≡ 0 = omega arith in
-      rw g
-
-  module _ (k : ℕ) (left : k < size) where
-    one : size - k ≡ suc (size - (k + 1))
-    one = omega arith
-
-    pub differs : (get_or w (start + k) 0 ≡ get_or s (at + k) 0 → ⊥) → from w start s at size k ≡ 0
-    unfolding from agreeing
-    differs h = rw (one, ne_eqb (get_or w (start + k) 0) (get_or s (at + k) 0) h)
-
-    pub agrees : get_or w (start + k) 0 ≡ get_or s (at + k) 0 → from w start s at size k ≡ suc (from w start s at size (k + 1))
-    unfolding from agreeing
-    agrees h =
-        let e : start + k + 1 ≡ start + (k + 1) = omega arith in
-        let f : at + k + 1 ≡ at + (k + 1) = omega arith in
-        rw (one, eq-eqb (get_or w (start + k) 0) (get_or s (at + k) 0) h, rest w (start + k) (size - (k + 1)), rest s (at + k) (size - (k + 1)))
-        (ap₂ (λ (a b : ℕ). suc (agreeing (part w a (size - (k + 1))) (part s b (size - (k + 1))))) e f)
 
 -- the part of a packet that is lent is the message
 pub lent : (s : List ℕ) (at size : ℕ) → at + size ≤ length s → take (at + size - at) (drop at s) ≡ part s at size
 lent s at size h =
     let e : at + size - at ≡ size = omega arith in
     rw e (sym (part-is s at size h))
+
+one_more : (a b : ℕ) → eqb (suc a) (suc b) ≡ eqb a b
+one_more a b = go (eqb a b) refl
+  where
+    go : (c : Bool) → eqb a b ≡ c → eqb (suc a) (suc b) ≡ eqb a b
+    go true e = eq-eqb (suc a) (suc b) (ap suc (eqb-true a b e)) ∙ sym e
+    go false e = ne_eqb (suc a) (suc b) (λ h. eqb-false a b e (omega (arith, h))) ∙ sym e
+
+-- lists of one length are equal where all of the bytes agree
+all_agree : (xs ys : List ℕ) → length xs ≡ length ys → pointwise eqb xs ys ≡ eqb (agreeing xs ys) (length ys)
+unfolding agreeing
+all_agree [] [] h = refl
+all_agree [] (y ∷ ys) h = absurd (omega (arith, h))
+all_agree (x ∷ xs) [] h = absurd (omega (arith, h))
+all_agree (x ∷ xs) (y ∷ ys) h = go (eqb x y) (all_agree xs ys (omega (arith, h)))
+  where
+    go : (b : Bool) → pointwise eqb xs ys ≡ eqb (agreeing xs ys) (length ys) → (b && pointwise eqb xs ys) ≡ eqb (cond b (suc (agreeing xs ys)) 0) (suc (length ys))
+    go true rest = rest ∙ sym (one_more (agreeing xs ys) (length ys))
+    go false rest = sym (ne_eqb 0 (suc (length ys)) (λ e. omega (arith, e)))
+
+-- the same of parts that are lent
+pub agree_lent : (w : List ℕ) (start : ℕ) (s : List ℕ) (at size : ℕ) → start + size ≤ length w → at + size ≤ length s
+    → pointwise eqb (take (start + size - start) (drop start w)) (take (at + size - at) (drop at s)) ≡ eqb (agreeing (part w start size) (part s at size)) size
+agree_lent w start s at size in_window in_packet =
+    (λ i. pointwise eqb (lent w start size in_window i) (lent s at size in_packet i))
+    ∙ all_agree (part w start size) (part s at size) (part_long w start size ∙ sym (part_long s at size))
+    ∙ ap (eqb (agreeing (part w start size) (part s at size))) (part_long s at size)
+
+-- bytes put over as many of them
+pub put_over : (w : List ℕ) (start : ℕ) (bs new : List ℕ) {size : ℕ} → length bs ≡ size → new ≡ bs → put_mid start (start + size - start) w new ≡ splice w start bs
+put_over w start bs new long is = subst (λ (n : ℕ). put_mid start (start + n - start) w new ≡ splice w start bs) long (replaced w start bs new is)

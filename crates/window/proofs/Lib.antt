@@ -4,4 +4,3 @@ pub mod FirstNumber
 pub mod Held
 pub mod Requests
 pub mod Splits
-mod Steps

@@ -6,6 +6,5 @@
 #![tactic(auto)]
 
 pub mod asking;
-mod copying;
 pub mod missing;
 pub mod places;

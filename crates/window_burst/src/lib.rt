@@ -163,10 +163,7 @@ pub fn put_answer(answers: &mut [u64], place: usize, first: u64, refusal: u64, n
     requires { place + 4 ≤ length answers.old }
     ensures { answers.new ≡ splice answers.old place (first ∷ refusal ∷ next ∷ end ∷ []) }
 {
-    answers[place] = first;
-    answers[place + 1] = refusal;
-    answers[place + 2] = next;
-    answers[place + 3] = end;
+    answers[place..place + 4].copy_from_slice(&[first, refusal, next, end]);
 }
 
 // The number of a refusal, 0 where there is none.

@@ -88,9 +88,9 @@ module _ {w s : List ℕ} {next k at size : ℕ} (neat : Neat w next) (framed : 
       sizes other =
           sym (by_bytes ∙ ap not (ne_eqb (agreeing copy bytes) (length bytes) (λ h. other (sym (part_long w (start_of (k % 256)) there) ∙ same_size copy bytes whole framed.whole h ∙ long))))
 
-      pub compared : there ≡ size → {r : ℕ} → r ≡ agreeing (part w (start_of (k % 256)) size) bytes → not (eqb r size) ≡ is_some (differ_at (waiting_of w next k) bytes)
+      pub compared : there ≡ size → {r : Bool} → r ≡ eqb (agreeing (part w (start_of (k % 256)) size) bytes) size → not r ≡ is_some (differ_at (waiting_of w next k) bytes)
       compared e is =
-          ap (λ (n : ℕ). not (eqb n size)) (is ∙ ap (λ (n : ℕ). agreeing (part w (start_of (k % 256)) n) bytes) (sym e))
+          ap not (is ∙ ap (λ (n : ℕ). eqb (agreeing (part w (start_of (k % 256)) n) bytes) size) (sym e))
           ∙ ap (λ (n : ℕ). not (eqb (agreeing copy bytes) n)) (sym long)
           ∙ sym by_bytes
 
@@ -118,8 +118,9 @@ pub record Seeking (w s : List ℕ) (next first messages at k left : ℕ) : Type
   pub near : k + left ≤ next + 256
   pub rest : differ_from (waiting_of w next) first (frames_from messages 12 s) s ≡ differ_from (waiting_of w next) k (frames_from left at s) s
 
-pub seek_start : {w s : List ℕ} {next first messages : ℕ} → Neat w next → Passed s next first messages → Seeking w s next first messages 12 first messages
-seek_start neat passed = record { neat = neat; walk = passed.walk; near = passed.near; rest = refl }
+pub seek_start : {w s : List ℕ} {next first messages : ℕ} → Neat w next → Passed s next first messages → {left : ℕ} → left ≡ messages → Seeking w s next first messages 12 first left
+seek_start {w} {s} {next} {first} {messages} neat passed all =
+    subst (Seeking w s next first messages 12 first) (sym all) (record { neat = neat; walk = passed.walk; near = passed.near; rest = refl })
 
 module _ {w s : List ℕ} {next first messages at k left : ℕ} (g : Seeking w s next first messages at k left) where
   pub seek_end : left ≤ 0 → false ≡ is_some (differ_from (waiting_of w next) first (frames_from messages 12 s) s)
@@ -151,11 +152,12 @@ module _ {w s : List ℕ} {next first messages at k left : ℕ} (g : Seeking w s
       pub seek_here : r ≡ true → true ≡ is_some (differ_from (waiting_of w next) first (frames_from messages 12 s) s)
       seek_here e = sym (ap is_some frames ∙ differ_here (waiting_of w next) k (at, size) (frames_from (left - 1) (at + size) s) s (sym is ∙ e))
 
-      pub seek_next : r ≡ false → Seeking w s next first messages (at + size) (k + 1) (left - 1)
-      seek_next e =
-          record {
+      pub seek_next : r ≡ false → {fewer : ℕ} → fewer ≡ left - 1 → Seeking w s next first messages (at + size) (k + 1) fewer
+      seek_next e less =
+          subst (Seeking w s next first messages (at + size) (k + 1)) (sym less)
+          (record {
             neat = g.neat;
             walk = subst (λ (n : ℕ). walk_from (left - 1) (at + n) s ≡ None) (sym told) there.rest;
             near = omega (arith, g.near);
             rest = frames ∙ differ_later (waiting_of w next) k (at, size) (frames_from (left - 1) (at + size) s) s (sym is ∙ e);
-          }
+          })

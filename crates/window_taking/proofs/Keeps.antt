@@ -72,8 +72,10 @@ pub record Going (w₀ w s : List ℕ) (next first messages at k left fresh : �
   pub few : fresh ≤ k
   pub count : fresh_in (state_of w₀ next next) (left_of s first 12 messages) ≡ fresh + fresh_in (state_of w next next) (left_of s k at left)
 
-pub going_start : {w s : List ℕ} {next first messages : ℕ} → Neat w next → Passed s next first messages → Going w w s next first messages 12 first messages 0
-going_start neat passed = record { neat = neat; walk = passed.walk; near = passed.near; rest = refl; few = omega arith; count = omega arith }
+pub going_start : {w s : List ℕ} {next first messages : ℕ} → Neat w next → Passed s next first messages → {left : ℕ} → left ≡ messages → Going w w s next first messages 12 first left 0
+going_start {w} {s} {next} {first} {messages} neat passed all =
+    subst (λ (n : ℕ). Going w w s next first messages 12 first n 0) (sym all)
+    (record { neat = neat; walk = passed.walk; near = passed.near; rest = refl; few = omega arith; count = omega arith })
 
 pub going_end : {w₀ w s : List ℕ} {next first messages at k left fresh : ℕ} → Going w₀ w s next first messages at k left fresh → left ≤ 0 → w ≡ kept_window w₀ next (left_of s first 12 messages)
 unfolding frames_from
@@ -103,9 +105,9 @@ module _ {w₀ w s : List ℕ} {next first messages at k left fresh size : ℕ} 
   pub one_small : {one : ℕ} → one ≡ fresh_in (state_of w next next) (single k (part s at size)) → one ≤ 1
   one_small is = omega (arith, is, fresh_small (state_of w next next) k (part s at size))
 
-  pub going_next : {after : List ℕ} {one : ℕ} → one ≡ fresh_in (state_of w next next) (single k (part s at size)) → after ≡ kept_window w next (single k (part s at size)) → Going w₀ after s next first messages (at + size) (k + 1) (left - 1) (fresh + one)
+  pub going_next : {after : List ℕ} {one : ℕ} → one ≡ fresh_in (state_of w next next) (single k (part s at size)) → after ≡ kept_window w next (single k (part s at size)) → {fewer : ℕ} → fewer ≡ left - 1 → Going w₀ after s next first messages (at + size) (k + 1) fewer (fresh + one)
   unfolding keep
-  going_next {after} {one} ones is =
+  going_next {after} {one} ones is less =
       let m : List ℕ = part s at size in
       let x : State (List ℕ) (Unit {0}) = state_of w next next in
       let y : State (List ℕ) (Unit {0}) = keep x (single k m) in
@@ -118,14 +120,15 @@ module _ {w₀ w s : List ℕ} {next first messages at k left fresh size : ℕ} 
       ap (λ (z : State (List ℕ) (Unit {0})). z.waiting) (keep-cons x k m ms) ∙ same_kept y (state_of after next next) (packet (k + 1) ms) refl (sym holds) in
       let counts : fresh_in x (packet k (m ∷ ms)) ≡ fresh_in x (single k m) + fresh_in (state_of after next next) (packet (k + 1) ms) =
       fresh-cons x k m ms ∙ ap (λ (n : ℕ). fresh_in x (single k m) + n) (same-fresh y (state_of after next next) (packet (k + 1) ms) refl (sym holds)) in
-      record {
+      subst (λ (n : ℕ). Going w₀ after s next first messages (at + size) (k + 1) n (fresh + one)) (sym less)
+      (record {
         neat = subst (λ (l : List ℕ). Neat l next) (sym is) (neat_for within g.neat.top);
         walk = subst (λ (n : ℕ). walk_from (left - 1) (at + n) s ≡ None) (sym told) there.rest;
         near = omega (arith, g.near);
         rest = g.rest ∙ ap (λ (l : List (List ℕ)). kept_window w next (packet k l)) frames ∙ ap (λ (f : ℕ → Option (List ℕ)). window_for f next) kept;
         few = omega (arith, g.few, ones, fresh_small x k m);
         count = omega (arith, g.count, ap (λ (l : List (List ℕ)). fresh_in x (packet k l)) frames, counts, ones);
-      }
+      })
 
   pub room : at + 2 ≤ length s
   room = omega (arith, there.framed.within, there.least)

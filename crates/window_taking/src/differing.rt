@@ -25,7 +25,7 @@ fn differs_at(window: &Window, next: u64, k: u64, s: &[u8], at: usize, size: usi
     if there != size {
         return true;
     }
-    places::agree(window, place, s, at, size) != size
+    !places::agree(window, place, s, at, size)
 }
 
 pub fn differs(window: &Window, next: u64, s: &[u8], first: u64, messages: u8) -> bool
@@ -34,16 +34,12 @@ pub fn differs(window: &Window, next: u64, s: &[u8], first: u64, messages: u8) -
     ensures { result ≡ is_some (differ_from (waiting_of window.now next) first (frames_from messages 12 s.now) s.now) }
 {
     let mut at = packet::HEADER;
-    let mut k = first;
-    let mut left = messages;
-    while 0 < left {
+    for k in first..first + (messages as u64) {
         let size = wire::u16_at(s, at) as usize;
         if differs_at(window, next, k, s, at, size) {
             return true;
         }
         at += size;
-        k += 1;
-        left -= 1;
     }
     false
 }

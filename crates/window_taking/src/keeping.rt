@@ -37,15 +37,11 @@ pub fn keep_all(window: &mut Window, next: u64, s: &[u8], first: u64, messages: 
     ensures kept { window.new ≡ window_for (kept (state_of window.old next next) (packet first (map (bytes_at s.now) (frames_from messages 12 s.now)))).waiting next }
 {
     let mut at = packet::HEADER;
-    let mut k = first;
-    let mut left = messages;
     let mut fresh: u64 = 0;
-    while 0 < left {
+    for k in first..first + (messages as u64) {
         let size = wire::u16_at(s, at) as usize;
         fresh += keep_one(window, next, k, s, at, size);
         at += size;
-        k += 1;
-        left -= 1;
     }
     fresh
 }

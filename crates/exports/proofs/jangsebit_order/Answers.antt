@@ -1,21 +1,12 @@
--- The order where it is located, and what is told of it.
+-- The order, as eight numbers.
 -- Assumes nothing.
-use Rattle.std.proofs.Common.{ap, ◌∙◌, arith}
-use Rattle.book.specs.declared.asking.OrderReply.{OrderReply}
-use Rattle.session.specs.Quoting.{refusal_in}
-use Rattle.exports.specs.Told.{order_told}
+use Rattle.std.proofs.Common.{◌≡◌, sym, rules, Err, MatchResult, IsOkAnd}
+use Rattle.single.proofs.Numbers.{tells}
+use Rattle.exports.specs.Told.{order_numbers}
 use Rattle.exports.proofs.jangsebit_order.Goals as goal
-
-pub offset_bounds-session-located : goal.offset_bounds-session-located
-offset_bounds-session-located c = omega (arith, (c.locate-located.ensures _ _ c.requires.1).place)
-
-pub bounds-session-located : goal.bounds-session-located
-bounds-session-located c = (c.locate-located.ensures _ _ c.requires.1).place
 
 pub returns : goal.returns
 returns c =
-    let located = c.locate-located.ensures _ _ c.requires.1 in
-    record {
-      refusal = c.tell_at.ensures.refusal ∙ ap (λ (a : OrderReply). refusal_in a.reply) located.answer;
-      told = c.tell_at.ensures.told ∙ ap (λ (a : OrderReply). order_told a c.args.told.now) located.answer;
-    }
+    let is : MatchResult c.order.result (λ a. IsOkAnd c.map.result (λ l. l ≡ order_numbers a)) (λ e. c.map.result ≡ Err e) = search rules in
+    let h = tells order_numbers _ _ c.order.ensures (λ a. sym c.told-told) is c.tell.ensures.refusal c.tell.ensures.told in
+    record { refusal = h.0; told = h.1 }

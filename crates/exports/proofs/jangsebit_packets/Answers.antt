@@ -32,7 +32,7 @@ returns c =
       taken = taken_all x a.single a.count a.packets.now a.answers.now (kind _ _ _ p) refl (test _ _ _ p) (dues _ _ _ p) run.held;
       answers = rows_all x a.single a.count a.packets.now a.answers.now (kind _ _ _ p) refl (test _ _ _ p) (dues _ _ _ p) run.answers;
       told =
-          c.tell.ensures
-          ∙ told_all x a.single a.count a.packets.now a.answers.now (kind _ _ _ p) refl (test _ _ _ p) (dues _ _ _ p) a.told.now refl run.taken run.at;
+          c.tell_all.ensures
+          ∙ told_all x a.single a.count a.packets.now a.answers.now (kind _ _ _ p) refl (test _ _ _ p) (dues _ _ _ p) a.told.now c.count_of.ensures run.taken run.at;
       rule = rule_packets c.requires _ a.packets.now _ (bytes_of a.packets.now (λ i. omega (arith, c.type_inv.packets i))) run.held;
     }

@@ -1,34 +1,28 @@
 -- The engine over a session that is lent: it stops at each message that touches an order, and what that message does is stored where
 -- the orders lie.
 -- Assumes nothing.
-use Rattle.std.proofs.Common.{◌≡◌, ℕ, ◌<◌, Bool, true, false, List, length, get_or, refl, ap, ◌∙◌, arith}
+use Rattle.std.proofs.Common.{◌≡◌, ℕ, ◌<◌, Bool, List, length, get_or, refl, ap, ◌∙◌, arith, Some}
 use lib.ListN.{length-replicate}
-use mathlib.Core.Bool.{not}
-use borrow.Author.Tests.{not-false, not-true}
 use Rattle.book.specs.Tables.{blank}
 use Rattle.book.specs.declared.tables.Order.{Order}
-use Rattle.session.specs.Engine.{AtHand, Came, Over, Task, steps_left}
+use Rattle.session.specs.Engine.{AtPlace, Came, Task, steps_left}
+use Rattle.session.specs.declared.advancing.AtHand.{AtHand}
 use Rattle.session.specs.declared.advancing.Ended.{Ended}
 use Rattle.session.specs.declared.advancing.Point.{Point}
 use Rattle.session.proofs.Engine.{going_starts, stored_put, stored_remove}
 use Rattle.session_lent.proofs.run.Goals as goal
 
-module _ {t : Task} {s : List ℕ} {single : Bool} {os : List Order} {room window answers text : List ℕ} {before r : Point}
-    (came : Came t s single os room window answers text before r) where
-  -- nothing is left to do
-  over : not r.touches ≡ true → Over t s single os room window answers r
-  over e = came.over (not-true r.touches e)
+-- a message is at hand
+module _ {t : Task} {s : List ℕ} {single : Bool} {os : List Order} {room window answers text : List ℕ} {before point : Point}
+    (came : Came t s single os room window answers text before point) {hand : AtHand} (h : point.at_hand ≡ Some hand) where
+  at_place : AtPlace t s single os room window answers text point hand (get_or os hand.place blank)
+  at_place = record { waits = came.waits hand h; there = refl }
 
-  -- a message is at hand
-  module _ (e : not r.touches ≡ false) where
-    within : r.place < 256
-    within = came.place (not-false r.touches e)
+  within : hand.place < 256
+  within = (came.waits hand h).within
 
-    fewer : steps_left r < steps_left before
-    fewer = came.fewer (not-false r.touches e)
-
-    at_hand : AtHand t s single os room window answers text r (get_or os r.place blank)
-    at_hand = record { waits = came.waits (not-false r.touches e); there = refl }
+  fewer : steps_left point < steps_left before
+  fewer = came.fewer hand h
 
 pub loop-point-init : goal.loop-point-init
 loop-point-init c =
@@ -38,65 +32,63 @@ loop-point-init c =
 pub advance-point-requires : goal.advance-point-requires
 advance-point-requires c = (_, _, c.loop-point.invariant)
 
-pub offset_bounds-session-point : goal.offset_bounds-session-point
-offset_bounds-session-point c = omega (arith, within (c.advance-point.ensures _ _ c.loop-point.invariant) c.if-not-point.false)
+pub offset_bounds-session-place : goal.offset_bounds-session-place
+offset_bounds-session-place c = omega (arith, within (c.advance-point.ensures _ _ c.loop-point.invariant) c.in-Some.is)
 
-pub bounds-session-point : goal.bounds-session-point
-bounds-session-point c = within (c.advance-point.ensures _ _ c.loop-point.invariant) c.if-not-point.false
+pub bounds-session-place : goal.bounds-session-place
+bounds-session-place c = within (c.advance-point.ensures _ _ c.loop-point.invariant) c.in-Some.is
 
-pub settle-outcome-requires : goal.settle-outcome-requires
-settle-outcome-requires c = (_, _, _, _, _, at_hand (c.advance-point.ensures _ _ c.loop-point.invariant) c.if-not-point.false)
+pub settle-requires : goal.settle-requires
+settle-requires c = (_, _, _, _, _, at_place (c.advance-point.ensures _ _ c.loop-point.invariant) c.in-Some.is)
 
-pub offset_bounds-session-outcome : goal.offset_bounds-session-outcome
-offset_bounds-session-outcome c =
-    omega (arith, (c.settle-outcome.ensures.settled _ _ _ _ _ (at_hand (c.advance-point.ensures _ _ c.loop-point.invariant) c.if-not-point.false)).last c.if-outcome.true)
+pub offset_bounds-session-last : goal.offset_bounds-session-last
+offset_bounds-session-last c =
+    omega (arith, (c.settle.ensures.settled _ _ _ _ _ (at_place (c.advance-point.ensures _ _ c.loop-point.invariant) c.in-Some.is)).last _ c.in-Moves.is)
 
-pub bounds-session-outcome : goal.bounds-session-outcome
-bounds-session-outcome c =
-    (c.settle-outcome.ensures.settled _ _ _ _ _ (at_hand (c.advance-point.ensures _ _ c.loop-point.invariant) c.if-not-point.false)).last c.if-outcome.true
+pub bounds-session-last : goal.bounds-session-last
+bounds-session-last c = (c.settle.ensures.settled _ _ _ _ _ (at_place (c.advance-point.ensures _ _ c.loop-point.invariant) c.in-Some.is)).last _ c.in-Moves.is
 
-pub offset_bounds-session-point-then-outcome : goal.offset_bounds-session-point-then-outcome
-offset_bounds-session-point-then-outcome c = omega (arith, within (c.advance-point.ensures _ _ c.loop-point.invariant) c.if-not-point.false)
+pub offset_bounds-session-place-in-Moves : goal.offset_bounds-session-place-in-Moves
+offset_bounds-session-place-in-Moves c = omega (arith, within (c.advance-point.ensures _ _ c.loop-point.invariant) c.in-Some.is)
 
-pub bounds-session-point-then-outcome : goal.bounds-session-point-then-outcome
-bounds-session-point-then-outcome c = within (c.advance-point.ensures _ _ c.loop-point.invariant) c.if-not-point.false
+pub bounds-session-place-in-Moves : goal.bounds-session-place-in-Moves
+bounds-session-place-in-Moves c = within (c.advance-point.ensures _ _ c.loop-point.invariant) c.in-Some.is
 
-pub offset_bounds-session-outcome-then-outcome : goal.offset_bounds-session-outcome-then-outcome
-offset_bounds-session-outcome-then-outcome c =
-    omega (arith, (c.settle-outcome.ensures.settled _ _ _ _ _ (at_hand (c.advance-point.ensures _ _ c.loop-point.invariant) c.if-not-point.false)).last c.if-outcome.true)
+pub offset_bounds-session-last-in-Moves : goal.offset_bounds-session-last-in-Moves
+offset_bounds-session-last-in-Moves c =
+    omega (arith, (c.settle.ensures.settled _ _ _ _ _ (at_place (c.advance-point.ensures _ _ c.loop-point.invariant) c.in-Some.is)).last _ c.in-Moves.is)
 
-pub bounds-session-outcome-then-outcome : goal.bounds-session-outcome-then-outcome
-bounds-session-outcome-then-outcome c =
-    (c.settle-outcome.ensures.settled _ _ _ _ _ (at_hand (c.advance-point.ensures _ _ c.loop-point.invariant) c.if-not-point.false)).last c.if-outcome.true
+pub bounds-session-last-in-Moves : goal.bounds-session-last-in-Moves
+bounds-session-last-in-Moves c = (c.settle.ensures.settled _ _ _ _ _ (at_place (c.advance-point.ensures _ _ c.loop-point.invariant) c.in-Some.is)).last _ c.in-Moves.is
 
-pub loop-point-smaller-then-outcome : goal.loop-point-smaller-then-outcome
-loop-point-smaller-then-outcome c = fewer (c.advance-point.ensures _ _ c.loop-point.invariant) c.if-not-point.false
+pub loop-point-smaller-in-Moves : goal.loop-point-smaller-in-Moves
+loop-point-smaller-in-Moves c = fewer (c.advance-point.ensures _ _ c.loop-point.invariant) c.in-Some.is
 
-pub loop-point-preserved-then-outcome : goal.loop-point-preserved-then-outcome
-loop-point-preserved-then-outcome c =
-    rw c.settle-outcome.ensures.same
-    (stored_remove (c.settle-outcome.ensures.settled _ _ _ _ _ (at_hand (c.advance-point.ensures _ _ c.loop-point.invariant) c.if-not-point.false)) c.if-outcome.true c.no_order.ensures)
+pub loop-point-preserved-in-Moves : goal.loop-point-preserved-in-Moves
+loop-point-preserved-in-Moves c =
+    rw c.settle.ensures.same
+    (stored_remove (c.settle.ensures.settled _ _ _ _ _ (at_place (c.advance-point.ensures _ _ c.loop-point.invariant) c.in-Some.is)) c.in-Moves.is c.no_order.ensures)
 
-pub offset_bounds-session-point-else-outcome : goal.offset_bounds-session-point-else-outcome
-offset_bounds-session-point-else-outcome c = omega (arith, within (c.advance-point.ensures _ _ c.loop-point.invariant) c.if-not-point.false)
+pub offset_bounds-session-place-in-Stores : goal.offset_bounds-session-place-in-Stores
+offset_bounds-session-place-in-Stores c = omega (arith, within (c.advance-point.ensures _ _ c.loop-point.invariant) c.in-Some.is)
 
-pub bounds-session-point-else-outcome : goal.bounds-session-point-else-outcome
-bounds-session-point-else-outcome c = within (c.advance-point.ensures _ _ c.loop-point.invariant) c.if-not-point.false
+pub bounds-session-place-in-Stores : goal.bounds-session-place-in-Stores
+bounds-session-place-in-Stores c = within (c.advance-point.ensures _ _ c.loop-point.invariant) c.in-Some.is
 
 pub loop-point-smaller : goal.loop-point-smaller
-loop-point-smaller c = fewer (c.advance-point.ensures _ _ c.loop-point.invariant) c.if-not-point.false
+loop-point-smaller c = fewer (c.advance-point.ensures _ _ c.loop-point.invariant) c.in-Some.is
 
 pub loop-point-preserved : goal.loop-point-preserved
 loop-point-preserved c =
-    rw c.settle-outcome.ensures.same
-    (stored_put (c.settle-outcome.ensures.settled _ _ _ _ _ (at_hand (c.advance-point.ensures _ _ c.loop-point.invariant) c.if-not-point.false)) c.if-outcome.false)
+    rw c.settle.ensures.same
+    (stored_put (c.settle.ensures.settled _ _ _ _ _ (at_place (c.advance-point.ensures _ _ c.loop-point.invariant) c.in-Some.is)) c.in-Stores.is)
 
 pub ended-requires : goal.ended-requires
-ended-requires c = (over (c.advance-point.ensures _ _ c.loop-point.invariant) c.if-not-point.true).left
+ended-requires c = ((c.advance-point.ensures _ _ c.loop-point.invariant).over c.in_default.is).left
 
 pub returns : goal.returns
 returns c =
-    let o = over (c.advance-point.ensures _ _ c.loop-point.invariant) c.if-not-point.true in
+    let o = (c.advance-point.ensures _ _ c.loop-point.invariant).over c.in_default.is in
     record {
       held = o.held;
       answers = o.answers;

@@ -1,16 +1,12 @@
--- The inside, or the refusal, by cases of the reply.
+-- The inside, as six numbers.
 -- Assumes nothing.
-use Rattle.book.specs.declared.asking.InsideReply.{InsideReply}
+use Rattle.std.proofs.Common.{◌≡◌, sym, rules, Err, MatchResult, IsOkAnd}
+use Rattle.single.proofs.Numbers.{tells}
 use Rattle.exports.specs.Told.{inside_numbers}
-use Rattle.exports.proofs.Told.{known_told, refused_told}
 use Rattle.exports.proofs.asking.jangsebit_inside.Goals as goal
 
-pub returns-in-Known : goal.returns-in-Known
-returns-in-Known c =
-    let told = known_told (λ (r : InsideReply). r.reply) (λ (r : InsideReply). inside_numbers r.inside) c.inside-answer.ensures c.args.told.now c.in-Known.is c.tell_inside.ensures in
-    record { refusal = told.0; told = told.1 }
-
-pub returns-in-Refused : goal.returns-in-Refused
-returns-in-Refused c =
-    let told = refused_told (λ (r : InsideReply). r.reply) (λ (r : InsideReply). inside_numbers r.inside) c.inside-answer.ensures c.args.told.now c.in-Refused.is in
-    record { refusal = told.0; told = told.1 }
+pub returns : goal.returns
+returns c =
+    let is : MatchResult c.inside.result (λ a. IsOkAnd c.map.result (λ l. l ≡ inside_numbers a)) (λ e. c.map.result ≡ Err e) = search rules in
+    let h = tells inside_numbers _ _ c.inside.ensures (λ a. sym c.told-told) is c.tell.ensures.refusal c.tell.ensures.told in
+    record { refusal = h.0; told = h.1 }

@@ -1,16 +1,11 @@
--- The requests, and what is told of them.
+-- How many requests, as one number.
 -- Assumes nothing.
-use mathlib.Core.Path.{◌∙◌, ap}
-use Rattle.window.specs.declared.asking.Asked.{Asked}
-use Rattle.exports.specs.Told.{asked_refusal, asked_told}
+use Rattle.std.proofs.Common.{◌≡◌, [], ◌∷◌, sym, rules, Err, MatchResult, IsOkAnd}
+use Rattle.single.proofs.Numbers.{tells}
 use Rattle.exports.proofs.asking.jangsebit_requests.Goals as goal
 
 pub returns : goal.returns
 returns c =
-    let asked = c.requests-asked.ensures in
-    let told = c.tell_count.ensures in
-    record {
-      refusal = told.refusal ∙ ap asked_refusal asked.answer;
-      buffer = asked.buffer;
-      told = told.told ∙ ap (λ (a : Asked). asked_told a c.args.told.now) asked.answer;
-    }
+    let is : MatchResult c.requests.result (λ a. IsOkAnd c.map.result (λ l. l ≡ a ∷ [])) (λ e. c.map.result ≡ Err e) = search rules in
+    let h = tells (λ n. n ∷ []) _ _ c.requests.ensures.answer (λ a. sym c.told-told) is c.tell.ensures.refusal c.tell.ensures.told in
+    record { refusal = h.0; told = h.1; buffer = c.requests.ensures.buffer }

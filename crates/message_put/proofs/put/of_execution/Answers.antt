@@ -20,14 +20,14 @@ put_u64-requires-in-Own c =
 pub returns-in-Published : goal.returns-in-Published
 unfolding layout_of
 returns-in-Published c =
-    let long : length c.args.id ≡ 14 = search rules in
+    let long : length c.args.fields.named.id ≡ 14 = search rules in
     let room : c.args.at ≤ length c.args.buf.now = omega (arith, c.requires) in
     terms_put _ _ _ _ _ _ _ c.in-Published.is (row_then _ (number 4 ∷ number 4 ∷ number 8 ∷ []) _ (number_is _ ∷ number_is _ ∷ number_is _ ∷ []) _ _ (long, tt) tt room c.named.ensures (then _ _ (then _ _ c.put_u32.ensures c.put_u32-2.ensures) c.put_u64.ensures))
 
 pub returns-in-Own : goal.returns-in-Own
 unfolding layout_of
 returns-in-Own c =
-    let long : length c.args.id ≡ 14 = search rules in
+    let long : length c.args.fields.named.id ≡ 14 = search rules in
     let room : c.args.at ≤ length c.args.buf.now = omega (arith, c.requires) in
     terms_put _ _ _ _ _ _ _ c.in-Own.is (row_then _ (number 4 ∷ number 4 ∷ number 8 ∷ number 8 ∷ []) _ (number_is _ ∷ number_is _ ∷ number_is _ ∷ number_is _ ∷ []) _ _ (long, tt) tt room c.named.ensures (then _ _ (then _ _ (then _ _ c.put_u32.ensures c.put_u32-2.ensures) c.put_u64.ensures) c.put_u64-in-Own.ensures))
 

@@ -57,47 +57,47 @@ trade-requires c = room_for Trade c.in-Ok.ensures c.in-Trade.is c.requires
 
 pub returns-in-Security : goal.returns-in-Security
 unfolding fields_of message_of layout_of
-returns-in-Security c = made _ of_security (number_is Security c.in-Ok.ensures c.in-Security.is) c.of_security.ensures c.security.ensures refl
+returns-in-Security c = made _ of_security (number_is Security c.in-Ok.ensures c.in-Security.is) c.from.ensures c.security.ensures refl
 
 pub returns-in-SpinStart : goal.returns-in-SpinStart
 unfolding fields_of message_of layout_of
-returns-in-SpinStart c = made _ of_spin_start (number_is SpinStart c.in-Ok.ensures c.in-SpinStart.is) c.of_spin_start.ensures c.spin_start.ensures refl
+returns-in-SpinStart c = made _ of_spin_start (number_is SpinStart c.in-Ok.ensures c.in-SpinStart.is) c.from-in-SpinStart.ensures c.spin_start.ensures refl
 
 pub returns-in-SpinEnd : goal.returns-in-SpinEnd
 unfolding fields_of message_of layout_of
-returns-in-SpinEnd c = made _ of_spin_end (number_is SpinEnd c.in-Ok.ensures c.in-SpinEnd.is) c.of_spin_end.ensures c.spin_end.ensures refl
+returns-in-SpinEnd c = made _ of_spin_end (number_is SpinEnd c.in-Ok.ensures c.in-SpinEnd.is) c.from-in-SpinEnd.ensures c.spin_end.ensures refl
 
 pub returns-in-TradingSession : goal.returns-in-TradingSession
 unfolding fields_of message_of layout_of
-returns-in-TradingSession c = made _ of_trading_session (number_is TradingSession c.in-Ok.ensures c.in-TradingSession.is) c.of_trading_session.ensures c.trading_session.ensures refl
+returns-in-TradingSession c = made _ of_trading_session (number_is TradingSession c.in-Ok.ensures c.in-TradingSession.is) c.from-in-TradingSession.ensures c.trading_session.ensures refl
 
 pub returns-in-Add : goal.returns-in-Add
 unfolding fields_of message_of layout_of
-returns-in-Add c = made _ of_add (number_is Add c.in-Ok.ensures c.in-Add.is) c.of_add.ensures c.add.ensures refl
+returns-in-Add c = made _ of_add (number_is Add c.in-Ok.ensures c.in-Add.is) c.from-in-Add.ensures c.add.ensures refl
 
 pub returns-in-Update : goal.returns-in-Update
 unfolding fields_of message_of layout_of
-returns-in-Update c = made _ of_update (number_is Update c.in-Ok.ensures c.in-Update.is) c.of_update.ensures c.update.ensures refl
+returns-in-Update c = made _ of_update (number_is Update c.in-Ok.ensures c.in-Update.is) c.from-in-Update.ensures c.update.ensures refl
 
 pub returns-in-Delete : goal.returns-in-Delete
 unfolding fields_of message_of layout_of
-returns-in-Delete c = made _ of_delete (number_is Delete c.in-Ok.ensures c.in-Delete.is) c.of_delete.ensures c.named.ensures refl
+returns-in-Delete c = made _ of_delete (number_is Delete c.in-Ok.ensures c.in-Delete.is) c.from-in-Delete.ensures c.named.ensures refl
 
 pub returns-in-Execution : goal.returns-in-Execution
 unfolding fields_of message_of layout_of
-returns-in-Execution c = made _ of_execution (number_is Execution c.in-Ok.ensures c.in-Execution.is) c.of_execution.ensures c.execution.ensures refl
+returns-in-Execution c = made _ of_execution (number_is Execution c.in-Ok.ensures c.in-Execution.is) c.from-in-Execution.ensures c.execution.ensures refl
 
 pub returns-in-Priced : goal.returns-in-Priced
 unfolding fields_of message_of layout_of
-returns-in-Priced c = made _ of_priced (number_is Priced c.in-Ok.ensures c.in-Priced.is) c.of_priced.ensures c.priced.ensures refl
+returns-in-Priced c = made _ of_priced (number_is Priced c.in-Ok.ensures c.in-Priced.is) c.from-in-Priced.ensures c.priced.ensures refl
 
 pub returns-in-Top : goal.returns-in-Top
 unfolding fields_of message_of layout_of
-returns-in-Top c = made _ of_top (number_is Top c.in-Ok.ensures c.in-Top.is) c.of_top.ensures c.top.ensures refl
+returns-in-Top c = made _ of_top (number_is Top c.in-Ok.ensures c.in-Top.is) c.from-in-Top.ensures c.top.ensures refl
 
 pub returns-in-Trade : goal.returns-in-Trade
 unfolding fields_of message_of layout_of
-returns-in-Trade c = made _ of_trade (number_is Trade c.in-Ok.ensures c.in-Trade.is) c.of_trade.ensures c.trade.ensures refl
+returns-in-Trade c = made _ of_trade (number_is Trade c.in-Ok.ensures c.in-Trade.is) c.from-in-Trade.ensures c.trade.ensures refl
 
 pub returns-in-Imbalance : goal.returns-in-Imbalance
 unfolding fields_of message_of layout_of

@@ -1,8 +1,7 @@
 -- The packets of a burst kept, by their count, and end written.
 -- Assumes nothing.
-use mathlib.Core.Path.{◌≡◌, refl}
+use mathlib.Core.Path.{refl}
 use mathlib.Core.Bool.{false}
-use mathlib.Core.List.{List}
 use native.Mathlib.Omega.{arith}
 use Rattle.wire.specs.Number.{Bytes}
 use Rattle.window_taking.proofs.Passing.{bytes_of}
@@ -11,7 +10,6 @@ use Rattle.session.specs.Asking.{line_in}
 use Rattle.session.specs.Meaning.{held, view}
 use Rattle.session.proofs.Calls.{burst_runs, bytes_are, count-is, packets_bytes}
 use Rattle.session_keeping.proofs.Keeps.{all_held, all_ruled, burst_kept_lem, known_here, neat_here, rows_kept}
-use borrow.Author.Rules.{rules}
 use Rattle.session_keeping.proofs.keeping.keep_burst.Goals as goal
 
 pub keep_packets-kept-requires : goal.keep_packets-kept-requires

@@ -1,16 +1,14 @@
 -- By the header, then by the size of what waits at next.
 -- Assumes nothing.
-use mathlib.Core.Path.{◌≡◌, ap, ◌∙◌, sym}
+use mathlib.Core.Path.{ap, ◌∙◌, sym}
 use mathlib.Core.Bool.{Bool, true, cond, not}
-use Prim.Native.Nat.{ℕ, ◌%◌}
+use Prim.Native.Nat.{ℕ}
 use native.Mathlib.Nat.{mod-lt}
 use native.Mathlib.Omega.{arith}
 use lib.Dec.{eqb}
 use Rattle.merge.specs.State.{is_there}
 use Rattle.window_taking.specs.Keeping.{waiting_of}
-use Rattle.session_keeping.specs.Passing.{carries_at}
 use Rattle.session_keeping.proofs.Passes.{there_at}
-use borrow.Author.Rules.{rules}
 use Rattle.session_keeping.proofs.passing.applies.Goals as goal
 
 pub returns-then-carries : goal.returns-then-carries

@@ -1,13 +1,12 @@
 -- The fields of a header, as five numbers.
 -- Assumes nothing.
-use Rattle.std.proofs.Common.{◌≡◌, ap, sym, ◌∙◌, rules, Result, Err, MatchResult, IsOkAnd}
-use Rattle.refusals.specs.declared.Refusal.{Refusal}
-use Rattle.packet.specs.declared.header.Header.{Header}
-use Rattle.single.specs.Told.{header_numbers, header_told}
-use Rattle.single.proofs.Numbers.{told_all}
+use Rattle.std.proofs.Common.{◌≡◌, sym, rules, Err, MatchResult, IsOkAnd}
+use Rattle.single.specs.Told.{header_numbers}
+use Rattle.single.proofs.Numbers.{tells}
 use Rattle.single.proofs.headers.read.Goals as goal
 
-pub returns-clause-told : goal.returns-clause-told
-returns-clause-told c =
-    let numbers : MatchResult c.read_header.result (λ h. IsOkAnd c.map.result (λ l. l ≡ header_numbers h)) (λ e. c.map.result ≡ Err e) = search rules in
-    told_all header_numbers c.read_header.result (λ h. sym c.told-told) numbers c.tell.ensures.told ∙ ap (λ (r : Result Header Refusal). header_told r c.args.told.now) c.read_header.ensures
+pub returns : goal.returns
+returns c =
+    let is : MatchResult c.read_header.result (λ a. IsOkAnd c.map.result (λ l. l ≡ header_numbers a)) (λ e. c.map.result ≡ Err e) = search rules in
+    let h = tells header_numbers _ _ c.read_header.ensures (λ a. sym c.told-told) is c.tell.ensures.refusal c.tell.ensures.told in
+    record { refusal = h.0; told = h.1 }
