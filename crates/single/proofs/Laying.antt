@@ -140,8 +140,8 @@ module _ (s : List ℕ) where
   pub read_laid : (m : Message) → Ok m ≡ read_of s → Laid (words_of (type_in s)) (length s)
   read_laid m told = let t : Taken s m = taken s m (sym told) in laid (type_in s) (length s) t.least t.enough
 
-  pub read_accepted : (m : Message) {old after : List ℕ} → Ok m ≡ read_of s → after ≡ over (type_in s ∷ words_at (widths_of (layout_of (type_in s))) 3 s) old → after ≡ message_told (read_of s) old
-  read_accepted m {old} told put =
+  pub read_accepted : (m : Message) (old : List ℕ) {after : List ℕ} → Ok m ≡ read_of s → after ≡ over (type_in s ∷ words_at (widths_of (layout_of (type_in s))) 3 s) old → after ≡ message_told (read_of s) old
+  read_accepted m old told put =
       put
       ∙ ap (λ (ns : List ℕ). over ns old) (sym (numbers_are (type_in s) s))
       ∙ ap (λ (x : Message). over (message_numbers x) old) (taken s m (sym told)).fields

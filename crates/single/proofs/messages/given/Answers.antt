@@ -1,30 +1,19 @@
-use Rattle.std.proofs.Common.{rules, ◌≡◌, [], ◌∷◌, false, ◌≤◌, length, ℕ, ◌+◌, ◌-◌, ◌*◌, ◌<◌, ◌/◌, ◌%◌, Bool, true, nat_eq, nat_lt, List, ◌++◌, slice_index_or, slice_set, bit_and, bit_or, Fits, w8, w32, w64, Bor, MutBor}
-use Rattle.wire.specs.Number.{splice}
-use Rattle.message.specs.Layouts.{layout_of, type_in}
-use Rattle.message.specs.Reading.{read_of}
-use Rattle.single.specs.Over.{over, over_from}
-use Rattle.single.specs.Given.{bytes_from, given_buffer, given_of, message_if, wide_from}
-use Rattle.refusals.specs.Refusals.{refusal_in}
-use Rattle.single.specs.Told.{number_told}
-use Rattle.single.specs.Words.{message_told, widths_by, widths_of, words_at, words_of, Laid}
+-- The message of numbers, by whether all of them fit.
+-- Assumes nothing.
+use Rattle.single.proofs.Giving.{all_fit, field_wide, filled, type_wide, words_laid}
 use Rattle.single.proofs.messages.given.Goals as goal
 
--- src/messages.rt:83:9
 pub returns-then-first-ge256 : goal.returns-then-first-ge256
-returns-then-first-ge256 c = ?
+returns-then-first-ge256 c = type_wide c.args.numbers.now c.if-first-ge256.true
 
--- src/messages.rt:87:8
 pub fill-requires : goal.fill-requires
-fill-requires c = ?
+fill-requires c = words_laid _ c.words_of.ensures
 
--- src/messages.rt:88:9
 pub returns-then-fill : goal.returns-then-fill
-returns-then-fill c = ?
+returns-then-fill c = field_wide c.args.numbers.now c.if-first-ge256.false c.words_of.ensures c.fill.ensures.wide c.if-fill.true
 
--- src/messages.rt:90:8
 pub fields-requires : goal.fields-requires
-fields-requires c = ?
+fields-requires c = filled _ c.args.numbers.now c.words_of.ensures (c.fill.ensures.bytes c.if-fill.false)
 
--- src/messages.rt:78:1
 pub returns : goal.returns
-returns c = ?
+returns c = all_fit c.args.numbers.now c.if-first-ge256.false c.words_of.ensures c.fill.ensures.wide c.if-fill.false (c.fill.ensures.bytes c.if-fill.false) c.fields.ensures
