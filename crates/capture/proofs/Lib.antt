@@ -1,3 +1,2 @@
 -- Laws of `capture`.
-pub mod Errors
 pub mod Strict

@@ -1,66 +1,71 @@
-// What is printed: each line is put at a place of a buffer, and the place behind it answered.
-ghost use Rattle.std.specs.Prelude.{◌≡◌, ◌≤◌, length, IfOk, OnErr};
-
-use session::packets::Answer;
+// What is printed: lines put behind one another in a buffer, which is written where the next might not fit.
+use refusals::Refusal;
+use std::fmt;
+use std::fmt::Write;
 use std::io;
-use text::{number, output};
+use text::output;
+use window::missing::Gap;
 
-// More bytes than any line has.
-const ROOM: usize = 64;
+// The buffer's bytes, and more of them than any line has.
+const BYTES: usize = 8192;
 
-// Where the next line goes: the front, with all before it written, where it might not fit.
-pub fn place(rt: &impl Print, out: &mut [u8], at: usize) -> io::Result<usize>
-    ensures ok { IfOk result (λ next. next ≤ length out.new) }
-    ensures err { OnErr result (out.new ≡ out.old) }
-{
-    let size = out.len();
-    if size < ROOM {
-        return Ok(size);
-    }
-    if at < size - ROOM {
-        return Ok(at);
-    }
-    output::write(rt, out, at)
+const LINE: usize = 64;
+
+#[derive(Drop)]
+pub struct Lines {
+    bytes: [u8; BYTES],
+    end: usize,
 }
 
-// A number and a space.
-fn word(out: &mut [u8], at: usize, n: u64) -> usize
-    ensures { result ≤ length out.new }
-{
-    let end = number::put(out, at, n);
-    output::put(out, end, b" ")
-}
-
-// `next` and `end` after the packet, how many messages were applied, and the answer.
-pub fn packet(out: &mut [u8], at: usize, next: u64, end: u64, answer: Answer) -> usize
-    ensures { result ≤ length out.new }
-{
-    let a = word(out, at, next);
-    let b = word(out, a, end);
-    said(out, b, answer)
-}
-
-fn said(out: &mut [u8], at: usize, answer: Answer) -> usize
-    ensures { result ≤ length out.new }
-{
-    match answer {
-        Answer::Applied(count) => {
-            let a = word(out, at, count);
-            output::put(out, a, b"ok\n")
-        }
-        Answer::Refused(number) => {
-            let a = output::put(out, at, b"0 refused ");
-            let b = number::put(out, a, number as u64);
-            output::put(out, b, b"\n")
+impl Lines {
+    pub fn new() -> Self {
+        Lines {
+            bytes: [0u8; BYTES],
+            end: 0,
         }
     }
+
+    // To standard output.
+    pub fn write_out(&mut self, rt: &impl Print) -> io::Result<()> {
+        self.end = output::write(rt, &self.bytes, self.end)?;
+        Ok(())
+    }
+
+    fn make_room(&mut self, rt: &impl Print) -> io::Result<()> {
+        if self.end < BYTES - LINE {
+            return Ok(());
+        }
+        self.write_out(rt)
+    }
+
+    // `next` and `end` after the packet, how many messages were applied, and the answer.
+    pub fn packet(
+        &mut self,
+        rt: &impl Print,
+        next: u64,
+        end: u64,
+        answer: Result<u64, Refusal>,
+    ) -> io::Result<()> {
+        self.make_room(rt)?;
+        let _ = match answer {
+            Ok(count) => writeln!(self, "{next} {end} {count} ok"),
+            Err(refusal) => writeln!(self, "{next} {end} 0 refused {refusal}"),
+        };
+        Ok(())
+    }
+
+    pub fn gap(&mut self, rt: &impl Print, gap: Gap) -> io::Result<()> {
+        self.make_room(rt)?;
+        let Gap { start, count } = gap;
+        let _ = writeln!(self, "gap {start} {count}");
+        Ok(())
+    }
 }
 
-pub fn gap(out: &mut [u8], at: usize, start: u64, count: u64) -> usize
-    ensures { result ≤ length out.new }
-{
-    let a = output::put(out, at, b"gap ");
-    let b = word(out, a, start);
-    let c = number::put(out, b, count);
-    output::put(out, c, b"\n")
+// A line has its room, so none of its pieces is lost.
+impl fmt::Write for Lines {
+    fn write_str(&mut self, s: &str) -> fmt::Result {
+        self.end = output::put(&mut self.bytes, self.end, s.as_bytes());
+        Ok(())
+    }
 }

@@ -5,7 +5,12 @@ use base.Logic.{emp}
 use borrow.Fn.Claims.{AllOf}
 use borrow.Fn.Read.{Read, all_models, no_know, r_last}
 use borrow.Fn.World.{Pr, World}
-use Rattle.packet_reader.specs.Cursors.{lent}
+use Rattle.std.proofs.Common.{ℕ, false, true, eqb, Option, None, Some, Result, Ok, Err}
+use Rattle.refusals.specs.Refusals.{number_of, refusal_by, refusal_in, refusal_or_none}
+use Rattle.refusals.specs.declared.Refusal.{Refusal}
+use Rattle.refusals.proofs.Numbers.{by_number, some_number}
+use Rattle.packet.proofs.Headers.{told_once}
+use Rattle.packet_reader.specs.Cursors.{lent_if}
 use Rattle.packet_reader.specs.Steps.{seen}
 use Rattle.session.specs.Meaning.{Held, Ruled, held}
 use Rattle.session.specs.declared.state.Session.{Session}
@@ -35,7 +40,6 @@ use Rattle.packet_reader.specs.contracts.read.refusal as reader-refusal
 use Rattle.packet_reader.specs.contracts.read.step as reader-step
 use Rattle.book.proofs.asking.best.Reads as book-best
 use Rattle.session.proofs.state.Session.open.Reads as session-open
-use Rattle.session.proofs.state.Session.open_strict.Reads as session-open-strict
 use Rattle.session.proofs.packets.take.Reads as session-take
 use Rattle.session.proofs.packets.burst.Reads as session-burst
 use Rattle.session.proofs.packets.apply.Reads as session-apply
@@ -96,6 +100,29 @@ Once contract = Fixes contract (λ κs r s. r)
 named : {K : Type 0} {A R S T : K → Type 0} {contract : (κs : K) → A κs → R κs → S κs → Type 0} {part : (κs : K) → R κs → S κs → T κs} {name : (κs : K) → A κs → T κs} → ((κs : K) (a : A κs) (r : R κs) (s : S κs) → contract κs a r s → part κs r s ≡ name κs a) → Fixes contract part
 named tells κs a one other s t p q = once (tells κs a one s p) (tells κs a other t q)
 
+-- ---- refusals: the number says which it is, and 0 that there is none
+
+number_once : (one other : Refusal) → number_of one ≡ number_of other → one ≡ other
+number_once one other e = sym (by_number one) ∙ ap refusal_by e ∙ by_number other
+
+no_number : (r : Refusal) → number_of r ≡ 0 → ⊥
+no_number r e = absurd_test (sym (some_number r) ∙ ap (λ (n : ℕ). eqb n 0) e)
+  where
+    absurd_test : false ≡ true → ⊥
+    absurd_test h = cc
+
+some_once : (one other : Option Refusal) → refusal_or_none one ≡ refusal_or_none other → one ≡ other
+some_once None None e = refl
+some_once None (Some r) e = absurd (no_number r (sym e))
+some_once (Some r) None e = absurd (no_number r e)
+some_once (Some r) (Some q) e = ap Some (number_once r q e)
+
+refused_once : (one other : Result (Unit {0}) Refusal) → refusal_in one ≡ refusal_in other → one ≡ other
+refused_once (Ok u) (Ok v) e = refl
+refused_once (Ok u) (Err r) e = absurd (no_number r (sym e))
+refused_once (Err r) (Ok u) e = absurd (no_number r e)
+refused_once (Err r) (Err q) e = ap Err (number_once r q e)
+
 -- ---- fields
 
 pub record Fields : Type 0 where
@@ -133,7 +160,7 @@ messages =
       packet_write_header_once = named (λ κs a r s p. p.0);
       packet_write_header_memory = named (λ κs a r s p. p.1);
       packet_read_header_once = named (λ κs a r s p. p);
-      packet_judge_once = named (λ κs a r s p. p);
+      packet_judge_once = λ κs a one other s t p q. told_once one other (once p q);
     }
 
 -- ---- reader
@@ -145,10 +172,18 @@ pub record Reader : Type 0 where
   pub reader_refused_once : Once reader-refused.Post
   pub reader_stepped_once : Once reader-stepped.Post
   -- where the part lies and what it holds; the loan's own name is the checker's matter
-  pub reader_message_of_once : Fixes reader-message-of.Post (λ κs r s. lent r)
+  pub reader_message_of_once : Fixes reader-message-of.Post (λ κs r s. lent_if r)
 
 pub reader : Reader
-reader = search once
+reader =
+    record {
+      reader_judge_once = λ κs a one other s t p q. refused_once one other (once p q);
+      reader_frame_of_once = named (λ κs a r s p. p);
+      reader_opened_once = named (λ κs a r s p. p);
+      reader_refused_once = λ κs a one other s t p q. some_once one other (once p q);
+      reader_stepped_once = named (λ κs a r s p. p);
+      reader_message_of_once = named (λ κs a r s p. p);
+    }
 
 -- Of the calls that are lent a reader or the orders each clause stands by itself: what it tells, at every model of the logic.
 abbrev Told : ((w : World) → Pr w) → Type 2
@@ -191,11 +226,8 @@ window_of_lem = ap (λ (h : Held). h.window)
 
 pub record Sessions : Type 0 where
   pub session_open_once : Once session-open.Post
-  pub session_open_room : Fixes session-open.Post (λ κs r s. s.1.0.now)
-  pub session_open_window : Fixes session-open.Post (λ κs r s. s.1.1.0.now)
-  pub session_open_strict_once : Once session-open-strict.Post
-  pub session_open_strict_room : Fixes session-open-strict.Post (λ κs r s. s.1.0.now)
-  pub session_open_strict_window : Fixes session-open-strict.Post (λ κs r s. s.1.1.0.now)
+  pub session_open_room : Fixes session-open.Post (λ κs r s. s.1.1.0.now)
+  pub session_open_window : Fixes session-open.Post (λ κs r s. s.1.1.1.0.now)
   pub session_take_once : Once session-take.Post
   pub session_take_room : Fixes session-take.Post (λ κs r s. s.1.0.now)
   pub session_take_window : Fixes session-take.Post (λ κs r s. s.1.1.0.now)
@@ -238,9 +270,6 @@ sessions =
       session_open_once = named (λ κs a r s p. session_of p.0);
       session_open_room = named (λ κs a r s p. room_of p.0);
       session_open_window = named (λ κs a r s p. window_of_lem p.0);
-      session_open_strict_once = named (λ κs a r s p. session_of p.0);
-      session_open_strict_room = named (λ κs a r s p. room_of p.0);
-      session_open_strict_window = named (λ κs a r s p. window_of_lem p.0);
       session_take_once = λ κs a one other s t p q. λ i. record { session = session_of (once p.0 q.0) i; answer = once p.1.0 q.1.0 i };
       session_take_room = named (λ κs a r s p. room_of p.0);
       session_take_window = named (λ κs a r s p. window_of_lem p.0);

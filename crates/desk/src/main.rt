@@ -9,37 +9,28 @@ mod reads;
 mod walks;
 mod writes;
 
-ghost use Rattle.std.specs.Prelude.{IfOk, OnErr};
-ghost use Rattle.session.specs.Meaning.{held, Ruled};
-ghost use Rattle.session.specs.declared.state.Session.{Session as Table};
+ghost use Rattle.session.specs.Meaning.{Ruled};
+ghost use Rattle.session_owned.specs.Holding.{held_by};
 
-use book_room::room::Room;
+use book::tables::OpeningRule;
 use command::Command;
-use lines::Kind;
-use session::state::Session;
+use lines::{Line, Lines};
+use session_owned::Owned;
 use std::io;
-use window::places::Window;
 
 // The commands that ask a session.
-fn ask(
-    rt: &impl Print,
-    session: Session,
-    room: &Room,
-    window: &Window,
-    command: Command,
-    line: &[u8],
-) -> io::Result<()>
-    requires { Ruled (held session room.now window.now) }
+fn ask(rt: &impl Print, owned: &Owned, command: Command, line: &[u8]) -> io::Result<()>
+    requires { Ruled (held_by owned.now) }
 {
     match command {
-        Command::State => asks::state(rt, room),
-        Command::Unlisted => asks::unlisted(rt, room),
-        Command::Rule => asks::rule(rt, room),
-        Command::Lowest => asks::lowest(rt, room, window),
-        Command::Order => asks::order(rt, session, room, line),
-        Command::Best => asks::best(rt, session, room, line),
-        Command::Inside => asks::inside(rt, room, line),
-        Command::Requests => asks::requests(rt, room, window, line),
+        Command::State => asks::state(rt, owned),
+        Command::Unlisted => asks::unlisted(rt, owned),
+        Command::Rule => asks::rule(rt, owned),
+        Command::Lowest => asks::lowest(rt, owned),
+        Command::Order => asks::order(rt, owned, line),
+        Command::Best => asks::best(rt, owned, line),
+        Command::Inside => asks::inside(rt, owned, line),
+        Command::Requests => asks::requests(rt, owned, line),
         _ => plain(rt, command, line),
     }
 }
@@ -57,86 +48,38 @@ fn plain(rt: &impl Print, command: Command, line: &[u8]) -> io::Result<()> {
     }
 }
 
-// The session behind a line that was carried out.
-fn carry_out(
-    rt: &impl Print,
-    session: Session,
-    room: &mut Room,
-    window: &mut Window,
-    line: &[u8],
-) -> io::Result<Session>
-    requires { Ruled (held session room.old window.old) }
-    ensures ok { IfOk result (λ next. Ruled (held next room.new window.new)) }
-    ensures err { OnErr result ((session : Table) × Ruled (held session room.new window.new)) }
-{
-    let command = command::command_of(line);
-    match command {
-        Command::Open => moves::open(rt, session, room, window, line),
-        Command::Strict => moves::open_strict(rt, session, room, window, line),
-        Command::Take => moves::take(rt, session, room, window, line),
-        Command::Keep => moves::keep(rt, session, room, window, line),
-        Command::Apply => moves::apply(rt, session, room, window, line),
-        _ => {
-            ask(rt, session, room, window, command, line)?;
-            Ok(session)
-        }
-    }
-}
-
 // The answer is written before the next line is waited for.
-fn respond(
-    rt: &impl Print,
-    session: Session,
-    room: &mut Room,
-    window: &mut Window,
-    kind: Kind,
-    line: &[u8],
-) -> io::Result<Session>
-    requires { Ruled (held session room.old window.old) }
-    ensures ok { IfOk result (λ next. Ruled (held next room.new window.new)) }
-    ensures err { OnErr result ((session : Table) × Ruled (held session room.new window.new)) }
+fn carry_out(rt: &impl Print, owned: &mut Owned, line: &[u8]) -> io::Result<()>
+    requires { Ruled (held_by owned.old) }
+    ensures { Ruled (held_by owned.new) }
 {
-    match kind {
-        Kind::Whole => carry_out(rt, session, room, window, line),
-        _ => {
-            reads::bad(rt)?;
-            Ok(session)
-        }
+    let Some(command) = command::command_of(line) else {
+        return reads::bad(rt);
+    };
+    match command {
+        Command::Open => moves::open(rt, owned, line),
+        Command::Strict => moves::open_strict(rt, owned, line),
+        Command::Take => moves::take(rt, owned, line),
+        Command::Keep => moves::keep(rt, owned, line),
+        Command::Apply => moves::apply(rt, owned, line),
+        _ => ask(rt, owned, command, line),
     }
 }
 
-// What the buffer holds lies between from and to. No contract of a read promises the input's end, so
-// turns, far above the lines of any run, is what the proof ends by.
+// No contract of a read promises the input's end, so a count of turns, far above the lines of any run, is what the
+// proof ends by.
 fn main(rt: HostRuntime) -> io::Result<()> {
     let mut input = rt.stdin();
-    let mut buf = [0u8; 16384];
-    let mut room = [0u64; Session::ROOM];
-    let mut window = [0u8; Session::PLACES];
-    let mut session = Session::open(0, &mut room, &mut window);
-    let mut from: usize = 0;
-    let mut to: usize = 0;
-    let mut ended = false;
-    let mut turns = u64::MAX;
-    while 0 < turns {
-        turns -= 1;
-        let line = lines::next(&mut input, &mut buf, from, to, ended)?;
-        from = line.from;
-        to = line.to;
-        ended = line.ended;
-        let start = line.start;
-        let stop = line.stop;
-        let kind = line.kind;
-        if lines::is_none(kind) {
+    let mut lines = Lines::new();
+    let mut owned = Owned::open(0, OpeningRule::Default);
+    'turns: for _ in 0..u64::MAX {
+        let Some(line) = lines.next(&mut input)? else {
             return Ok(());
+        };
+        match line {
+            Line::Whole(line) => carry_out(&rt, &mut owned, line)?,
+            Line::Long => reads::bad(&rt)?,
         }
-        session = respond(
-            &rt,
-            session,
-            &mut room,
-            &mut window,
-            kind,
-            &buf[start..stop],
-        )?;
     }
     Ok(())
 }

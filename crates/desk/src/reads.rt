@@ -1,8 +1,9 @@
 // The commands that read bytes and need no session: value, header, message.
+ghost use Rattle.std.specs.Prelude.{◌≤◌, length, IfSome};
 ghost use Rattle.desk.specs.Commands.{TextOf};
 
 use printing::answers;
-use printing::words::put;
+use printing::words::Texts;
 use std::io;
 use text::hex;
 use text::words::word;
@@ -12,52 +13,43 @@ pub const LENT: usize = 4096;
 
 // The answer to a line that is no command.
 pub fn bad(rt: &impl Print) -> io::Result<()> {
-    put(rt, b"bad\n")
+    println!(rt; "bad")
+}
+
+// The bytes that a word stands for.
+pub fn bytes_of<'a>(word: &[u8], lent: &'a mut [u8]) -> Option<&'a [u8]> {
+    let count = hex::parse(word, lent)?;
+    Some(&lent[..count])
 }
 
 // An id or a symbol, where a word is one.
-#[derive(Clone, Copy)]
-pub struct Text {
-    pub good: bool,
-    pub text: [u8; 14],
-}
-
-pub fn text_of(word: &[u8]) -> Text
+pub fn text_of(word: &[u8]) -> Option<[u8; 14]>
     ensures { TextOf word.now result }
 {
     let mut text = [0u8; 14];
-    let got = hex::parse(word, &mut text);
-    Text {
-        good: got.count == 14,
-        text,
-    }
+    let count = hex::parse(word, &mut text).unwrap_or(0);
+    if count == 14 { Some(text) } else { None }
 }
 
 pub fn value(rt: &impl Print, line: &[u8]) -> io::Result<()> {
-    let id = text_of(word(line, 1));
-    if !id.good {
+    let Some(id) = text_of(word(line, 1)) else {
         return bad(rt);
-    }
-    let text = id.text;
-    answers::value(rt, fields::id::value(text))
+    };
+    answers::value(rt, fields::id::value(id))
 }
 
 pub fn header(rt: &impl Print, line: &[u8]) -> io::Result<()> {
     let mut lent = [0u8; LENT];
-    let got = hex::parse(word(line, 1), &mut lent);
-    if !got.good {
+    let Some(packet) = bytes_of(word(line, 1), &mut lent) else {
         return bad(rt);
-    }
-    let count = got.count;
-    answers::header(rt, packet::read_header(&lent[0..count]))
+    };
+    answers::header(rt, packet::read_header(packet))
 }
 
 pub fn message(rt: &impl Print, line: &[u8]) -> io::Result<()> {
     let mut lent = [0u8; LENT];
-    let got = hex::parse(word(line, 1), &mut lent);
-    if !got.good {
+    let Some(message) = bytes_of(word(line, 1), &mut lent) else {
         return bad(rt);
-    }
-    let count = got.count;
-    answers::message(rt, message_read::read(&lent[0..count]), false)
+    };
+    answers::message(rt, message_read::read(message), Texts::Hex)
 }

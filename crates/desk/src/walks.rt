@@ -1,42 +1,28 @@
 // The command that walks a packet with no session: walk.
-use crate::reads;
+use crate::reads::{LENT, bad, bytes_of};
 use printing::answers::refused;
-use printing::words::{digits, end, number, put};
 use std::io;
-use text::hex;
 use text::words::word;
 
 pub fn walk(rt: &impl Print, line: &[u8]) -> io::Result<()> {
-    let mut lent = [0u8; reads::LENT];
-    let got = hex::parse(word(line, 1), &mut lent);
-    if !got.good {
-        return reads::bad(rt);
-    }
-    let count = got.count;
-    walk_in(rt, &lent[0..count])
+    let mut lent = [0u8; LENT];
+    let Some(packet) = bytes_of(word(line, 1), &mut lent) else {
+        return bad(rt);
+    };
+    walk_in(rt, packet)
 }
 
-// A packet has at most 255 messages; a number behind the last one has a frame with no bytes.
+// A packet has at most 255 messages; a number behind the last one has no frame.
 fn walk_in(rt: &impl Print, packet: &[u8]) -> io::Result<()> {
-    let refusal = packet_reader::judge::judge(packet);
-    if refusal != 0 {
+    if let Err(refusal) = packet_reader::judge::judge(packet) {
         return refused(rt, refusal);
     }
-    put(rt, b"walk")?;
-    let mut k: u8 = 0;
-    while k < 255 {
-        let found = packet_reader::frame_of(packet, k);
-        if found.size == 0 {
+    print!(rt; "walk")?;
+    for k in 0..255 {
+        let Some(found) = packet_reader::frame_of(packet, k) else {
             break;
-        }
-        frame(rt, found.start, found.size)?;
-        k += 1;
+        };
+        print!(rt; " {}:{}", found.start, found.size)?;
     }
-    end(rt)
-}
-
-fn frame(rt: &impl Print, start: usize, size: usize) -> io::Result<()> {
-    number(rt, start as u64)?;
-    put(rt, b":")?;
-    digits(rt, size as u64)
+    println!(rt; "")
 }

@@ -1,191 +1,144 @@
 // Printing what a session answers.
-ghost use Rattle.std.specs.Prelude.{ℕ, List};
-ghost use Rattle.session.specs.Meaning.{held, Ruled};
-ghost use Rattle.session.specs.declared.state.Session.{Session as Table};
+ghost use Rattle.session.specs.Meaning.{Ruled};
+ghost use Rattle.session_owned.specs.Holding.{held_by};
 
 use crate::made;
-use book::asking::{BestReply, InsideReply, OrderReply, Reply};
-use book::tables::{Faults, OpeningRule};
-use book_room::room::Room;
+use book::asking::Level;
+use book::tables::{Inside, OpeningRule, Order};
 use printing::answers::refusal;
-use printing::words::{colon, end, number, put, small};
+use printing::words::label;
+use refusals::Refusal;
 use session::asking;
-use session::packets::Answer;
-use session::state::Session;
-use session_keeping::keeping::Kept;
+use session_owned::Owned;
 use std::io;
-use window::places::Window;
 
 // The answer to a packet, then next and end.
-pub fn taken(rt: &impl Print, label: &[u8], room: &Room, said: Answer) -> io::Result<()> {
-    put(rt, label)?;
-    colon(rt)?;
-    answer(rt, said)?;
-    numbers(rt, room)?;
-    end(rt)
-}
-
-fn answer(rt: &impl Print, answer: Answer) -> io::Result<()> {
-    match answer {
-        Answer::Applied(count) => told(rt, b"applied", count),
-        Answer::Refused(number) => refusal(rt, number),
+pub fn taken(
+    rt: &impl Print,
+    name: &[u8],
+    owned: &Owned,
+    said: Result<u64, Refusal>,
+) -> io::Result<()> {
+    label(rt, name)?;
+    match said {
+        Ok(count) => print!(rt; "applied {count}")?,
+        Err(refused) => refusal(rt, refused)?,
     }
-}
-
-fn told(rt: &impl Print, name: &[u8], count: u64) -> io::Result<()> {
-    put(rt, name)?;
-    number(rt, count)
+    numbers(rt, owned)?;
+    println!(rt; "")
 }
 
 // The answer to a packet that is kept, then next, end and lowest.
 pub fn kept(
     rt: &impl Print,
-    label: &[u8],
-    room: &Room,
-    window: &Window,
-    said: Kept,
+    name: &[u8],
+    owned: &Owned,
+    said: Result<u64, Refusal>,
 ) -> io::Result<()>
-    requires { (session : Table) × Ruled (held session room.now window.now) }
+    requires { Ruled (held_by owned.now) }
 {
-    put(rt, label)?;
-    colon(rt)?;
+    label(rt, name)?;
     match said {
-        Kept::Fresh(count) => told(rt, b"kept", count)?,
-        Kept::Refused(number) => refusal(rt, number)?,
+        Ok(count) => print!(rt; "kept {count}")?,
+        Err(refused) => refusal(rt, refused)?,
     }
-    waiting(rt, room, window)
+    waiting(rt, owned)
 }
 
 // How many were applied of those that waited, then the same.
-pub fn applied(
-    rt: &impl Print,
-    label: &[u8],
-    room: &Room,
-    window: &Window,
-    count: u64,
-) -> io::Result<()>
-    requires { (session : Table) × Ruled (held session room.now window.now) }
+pub fn applied(rt: &impl Print, name: &[u8], owned: &Owned, count: u64) -> io::Result<()>
+    requires { Ruled (held_by owned.now) }
 {
-    put(rt, label)?;
-    colon(rt)?;
-    told(rt, b"applied", count)?;
-    waiting(rt, room, window)
+    label(rt, name)?;
+    print!(rt; "applied {count}")?;
+    waiting(rt, owned)
 }
 
-fn waiting(rt: &impl Print, room: &Room, window: &Window) -> io::Result<()>
-    requires { (session : Table) × Ruled (held session room.now window.now) }
+fn waiting(rt: &impl Print, owned: &Owned) -> io::Result<()>
+    requires { Ruled (held_by owned.now) }
 {
-    numbers(rt, room)?;
-    told(rt, b", lowest", asking::lowest(room, window))?;
-    end(rt)
+    numbers(rt, owned)?;
+    println!(rt; ", lowest {}", asking::lowest(&owned.room, &owned.window))
 }
 
-pub fn numbers(rt: &impl Print, room: &Room) -> io::Result<()> {
-    told(rt, b", next", asking::next(room))?;
-    told(rt, b", end", asking::end(room))
+pub fn numbers(rt: &impl Print, owned: &Owned) -> io::Result<()> {
+    let next = asking::next(&owned.room);
+    let end = asking::end(&owned.room);
+    print!(rt; ", next {next}, end {end}")
 }
 
 // What the tables say: faults, the first order, the best bid and ask, the first inside.
-pub fn report(rt: &impl Print, session: Session, room: &Room) -> io::Result<()>
-    requires { (window : List ℕ) × Ruled (held session room.now window) }
+pub fn report(rt: &impl Print, owned: &Owned) -> io::Result<()>
+    requires { Ruled (held_by owned.now) }
 {
-    colon(rt)?;
-    orders(rt, session, room)?;
-    inside(rt, asking::inside(room, made::symbol_of(0)))
+    faults(rt, owned)?;
+    order(rt, asking::order(owned.session, &owned.room, made::id_of(0)))?;
+    bests(rt, owned)?;
+    inside(rt, asking::inside(&owned.room, made::symbol_of(0)))
 }
 
-fn orders(rt: &impl Print, session: Session, room: &Room) -> io::Result<()>
-    requires { (window : List ℕ) × Ruled (held session room.now window) }
-{
-    faults(rt, asking::faults(room))?;
-    order(rt, asking::order(session, room, made::id_of(0)))?;
-    best(rt, asking::best(session, room, *b"MSFTF         ", b'B'))?;
-    best(rt, asking::best(session, room, *b"MSFTF         ", b'S'))
-}
-
-fn faults(rt: &impl Print, faults: Faults) -> io::Result<()> {
-    put(rt, b"faults")?;
-    number(rt, faults.count)?;
+fn faults(rt: &impl Print, owned: &Owned) -> io::Result<()> {
+    let faults = asking::faults(&owned.room);
+    print!(rt; ": faults {}", faults.count)?;
     if faults.count != 0 {
-        put(rt, b", first")?;
-        number(rt, faults.number)?;
-        put(rt, b" by")?;
-        number(rt, faults.reason)?;
+        print!(rt; ", first {} by {}", faults.number, faults.reason)?;
     }
     Ok(())
 }
 
-// Whether there is an answer; else its refusal is printed.
-fn known(rt: &impl Print, reply: Reply) -> io::Result<bool> {
-    match reply {
-        Reply::Known => Ok(true),
-        Reply::Refused(number) => {
-            put(rt, b" ")?;
-            refusal(rt, number)?;
-            Ok(false)
-        }
+fn order(rt: &impl Print, answer: Result<Order, Refusal>) -> io::Result<()> {
+    print!(rt; "; order ")?;
+    match answer {
+        Ok(order) => print!(rt; "{} {}", order.shares, order.price),
+        Err(refused) => refusal(rt, refused),
     }
 }
 
-fn order(rt: &impl Print, answer: OrderReply) -> io::Result<()> {
-    put(rt, b"; order")?;
-    let reply = answer.reply;
-    if known(rt, reply)? {
-        let order = answer.order;
-        small(rt, order.shares)?;
-        number(rt, order.price)?;
-    }
-    Ok(())
+fn bests(rt: &impl Print, owned: &Owned) -> io::Result<()>
+    requires { Ruled (held_by owned.now) }
+{
+    let symbol = *b"MSFTF         ";
+    best(rt, asking::best(owned.session, &owned.room, symbol, b'B'))?;
+    best(rt, asking::best(owned.session, &owned.room, symbol, b'S'))
 }
 
-fn best(rt: &impl Print, answer: BestReply) -> io::Result<()> {
-    put(rt, b"; best")?;
-    let reply = answer.reply;
-    if known(rt, reply)? {
-        let level = answer.level;
-        number(rt, level.price)?;
-        number(rt, level.shares)?;
-        number(rt, level.orders)?;
+fn best(rt: &impl Print, answer: Result<Level, Refusal>) -> io::Result<()> {
+    print!(rt; "; best ")?;
+    match answer {
+        Ok(level) => print!(rt; "{} {} {}", level.price, level.shares, level.orders),
+        Err(refused) => refusal(rt, refused),
     }
-    Ok(())
 }
 
-fn inside(rt: &impl Print, answer: InsideReply) -> io::Result<()> {
-    put(rt, b"; inside")?;
-    let reply = answer.reply;
-    if known(rt, reply)? {
-        let inside = answer.inside;
-        number(rt, inside.ask)?;
-        number(rt, inside.bid)?;
+fn inside(rt: &impl Print, answer: Result<Inside, Refusal>) -> io::Result<()> {
+    print!(rt; "; inside ")?;
+    match answer {
+        Ok(inside) => print!(rt; "{} {}", inside.ask, inside.bid),
+        Err(refused) => refusal(rt, refused),
     }
-    Ok(())
 }
 
 // The rule for types that are not in the table, how many such messages were counted apart, and whether
 // the book is doubtful.
-pub fn unlisted(rt: &impl Print, room: &Room) -> io::Result<()> {
-    rule(rt, asking::rule(room))?;
-    told(rt, b", unlisted", asking::unlisted(room))?;
-    if asking::doubtful(room) {
-        put(rt, b", doubtful")?;
+pub fn unlisted(rt: &impl Print, owned: &Owned) -> io::Result<()> {
+    match asking::rule(&owned.room) {
+        OpeningRule::Default => print!(rt; ": rule default")?,
+        OpeningRule::Strict => print!(rt; ": rule strict")?,
+    }
+    print!(rt; ", unlisted {}", asking::unlisted(&owned.room))?;
+    if asking::doubtful(&owned.room) {
+        print!(rt; ", doubtful")?;
     }
     Ok(())
 }
 
-fn rule(rt: &impl Print, rule: OpeningRule) -> io::Result<()> {
-    match rule {
-        OpeningRule::Default => put(rt, b": rule default"),
-        OpeningRule::Strict => put(rt, b": rule strict"),
-    }
-}
-
-pub fn code(rt: &impl Print, room: &Room) -> io::Result<()> {
-    told(rt, b": code", asking::code(room))
+pub fn code(rt: &impl Print, owned: &Owned) -> io::Result<()> {
+    print!(rt; ": code {}", asking::code(&owned.room))
 }
 
 // The lowest number not carried.
-pub fn lowest(rt: &impl Print, room: &Room, window: &Window) -> io::Result<()>
-    requires { (session : Table) × Ruled (held session room.now window.now) }
+pub fn lowest(rt: &impl Print, owned: &Owned) -> io::Result<()>
+    requires { Ruled (held_by owned.now) }
 {
-    told(rt, b": lowest", asking::lowest(room, window))
+    print!(rt; ": lowest {}", asking::lowest(&owned.room, &owned.window))
 }

@@ -1,20 +1,15 @@
 // Messages and packets made for the cases.
-ghost use Rattle.std.specs.Prelude.{◌≡◌, ◌≤◌, length, IfOk, OnErr};
-ghost use Rattle.session.specs.Meaning.{held, Ruled};
-ghost use Rattle.session.specs.declared.state.Session.{Session as Table};
+ghost use Rattle.std.specs.Prelude.{◌≡◌, ◌≤◌, length};
+ghost use Rattle.session.specs.Meaning.{Ruled};
+ghost use Rattle.session_owned.specs.Holding.{held_by};
 ghost use Rattle.examples.specs.Made.{add_of, delete_of, execution_of, id_of, message_by, named_of, no_message, symbol_of, told_of, top_of, trading_of, update_of};
 
-use crate::keeping;
-use book_room::room::Room;
+use book::tables::OpeningRule;
 use examples_cases::rows::{letter, number};
 use message::{Body, Message, Terms};
-use message_write::Written;
 use packet::Header;
-use session::packets;
-use session::packets::Taken;
-use session::state::Session;
-use std::io;
-use window::places::Window;
+use refusals::Refusal;
+use session_owned::Owned;
 
 // The id of the k-th order: its value is below 1,000 in base 36 with decimal digits.
 pub fn id_of(k: u16) -> [u8; 14]
@@ -148,7 +143,7 @@ fn behind(buf: &mut [u8], at: usize, m: Message) -> usize
     requires { at ≤ length buf.old }
     ensures { result ≤ length buf.old }
 {
-    if let Written::Count(count) = message_write::write(m, buf, at) {
+    if let Ok(count) = message_write::write(m, buf, at) {
         if count <= buf.len() - at {
             return at + count;
         }
@@ -164,7 +159,7 @@ pub fn head(buf: &mut [u8], size: usize, seq: u32, flag: u8, messages: u8) {
         messages,
         milli: 72000000,
     };
-    packet::write_header(header, buf);
+    let _ = packet::write_header(header, buf);
 }
 
 // A packet of two messages, the first under the number `seq`, or of one where the second is not
@@ -180,150 +175,85 @@ pub fn packet_of(buf: &mut [u8], seq: u32, first: Message, second: Message) -> u
     both
 }
 
-// A packet handed to a session.
-fn handed(session: Session, room: &mut Room, window: &mut Window, packet: &[u8]) -> Taken
-    requires { Ruled (held session room.old window.old) }
-    ensures { Ruled (held result.session room.new window.new) }
-{
-    packets::take(session, room, window, packet)
-}
-
 // Such a packet handed to a session.
-pub fn sent(
-    session: Session,
-    room: &mut Room,
-    window: &mut Window,
-    seq: u32,
-    first: Message,
-    second: Message,
-) -> Taken
-    requires { Ruled (held session room.old window.old) }
-    ensures { Ruled (held result.session room.new window.new) }
+pub fn sent(owned: &mut Owned, seq: u32, first: Message, second: Message) -> Result<u64, Refusal>
+    requires { Ruled (held_by owned.old) }
+    ensures { Ruled (held_by owned.new) }
 {
     let mut buf = [0u8; 256];
     let size = packet_of(&mut buf, seq, first, second);
-    handed(session, room, window, &buf[0..size])
+    owned.take(&buf[..size])
 }
 
 // A packet of one message with a byte changed: what no writer would write.
 pub fn damaged(
-    session: Session,
-    room: &mut Room,
-    window: &mut Window,
+    owned: &mut Owned,
     seq: u32,
     m: Message,
     at: usize,
     byte: u8,
-) -> Taken
-    requires { Ruled (held session room.old window.old) }
-    ensures { Ruled (held result.session room.new window.new) }
+) -> Result<u64, Refusal>
+    requires { Ruled (held_by owned.old) }
+    ensures { Ruled (held_by owned.new) }
 {
     let mut buf = [0u8; 256];
     let size = packet_of(&mut buf, seq, m, none());
-    set(&mut buf, at, byte);
-    handed(session, room, window, &buf[0..size])
-}
-
-fn set(buf: &mut [u8], at: usize, byte: u8) {
-    if at < buf.len() {
+    if at < 256 {
         buf[at] = byte;
     }
+    owned.take(&buf[..size])
 }
 
 // Four messages in one packet, of which each is its type and nothing more: what no writer would write.
-pub fn empty(session: Session, room: &mut Room, window: &mut Window, seq: u32, line: &[u8]) -> Taken
-    requires { Ruled (held session room.old window.old) }
-    ensures { Ruled (held result.session room.new window.new) }
+pub fn empty(owned: &mut Owned, seq: u32, line: &[u8]) -> Result<u64, Refusal>
+    requires { Ruled (held_by owned.old) }
+    ensures { Ruled (held_by owned.new) }
 {
     let mut buf = [0u8; 24];
     head(&mut buf, 24, seq, 0, 4);
-    bare(&mut buf, 12, number(line, 2));
-    bare(&mut buf, 15, number(line, 3));
-    bare(&mut buf, 18, number(line, 4));
-    bare(&mut buf, 21, number(line, 5));
-    handed(session, room, window, &buf)
+    for k in 0..4u8 {
+        let at = 12 + 3 * k as usize;
+        buf[at + 1] = 3;
+        buf[at + 2] = (number(line, k + 2) % 256) as u8;
+    }
+    owned.take(&buf)
 }
 
-fn bare(buf: &mut [u8], at: usize, kind: u64)
-    requires { at ≤ 21 }
-{
-    set(buf, at + 1, 3);
-    set(buf, at + 2, (kind % 256) as u8);
-}
-
-pub fn beat(session: Session, room: &mut Room, window: &mut Window, seq: u32) -> Taken
-    requires { Ruled (held session room.old window.old) }
-    ensures { Ruled (held result.session room.new window.new) }
+pub fn beat(owned: &mut Owned, seq: u32) -> Result<u64, Refusal>
+    requires { Ruled (held_by owned.old) }
+    ensures { Ruled (held_by owned.new) }
 {
     let mut buf = [0u8; 12];
     head(&mut buf, 12, seq, 1, 0);
-    handed(session, room, window, &buf)
+    owned.take(&buf)
 }
 
-// A fresh session over what was lent to another.
-pub fn fresh(room: &mut Room, window: &mut Window, number: u32) -> Session
-    requires { (session : Table) × Ruled (held session room.old window.old) }
-    ensures { Ruled (held result room.new window.new) }
+// A session opened again with so many orders, so many that wait, or so many insides, a packet each.
+pub fn filled(owned: &mut Owned, kind: u8, count: u16)
+    requires { Ruled (held_by owned.old) }
+    ensures { Ruled (held_by owned.new) }
 {
-    Session::open(number, room, window)
-}
-
-// The same under the strict rule.
-pub fn strict(room: &mut Room, window: &mut Window, number: u32) -> Session
-    requires { (session : Table) × Ruled (held session room.old window.old) }
-    ensures { Ruled (held result room.new window.new) }
-{
-    Session::open_strict(number, room, window)
-}
-
-// One with so many orders, so many that wait, or so many insides, a packet each.
-pub fn filled(
-    rt: &impl Print,
-    room: &mut Room,
-    window: &mut Window,
-    kind: u8,
-    count: u16,
-) -> io::Result<Session>
-    requires { (session : Table) × Ruled (held session room.old window.old) }
-    ensures ok { IfOk result (λ next. Ruled (held next room.new window.new)) }
-    ensures err { OnErr result ((session : Table) × Ruled (held session room.new window.new)) }
-{
-    let mut session = fresh(room, window, 1);
-    let mut k: u16 = 0;
-    while k < count {
-        session = nth(rt, session, room, window, kind, k)?;
-        k += 1;
+    owned.reopen(1, OpeningRule::Default);
+    for k in 0..count {
+        nth(owned, kind, k);
     }
-    Ok(session)
-}
-
-fn then(session: Session, room: &mut Room, window: &mut Window, seq: u32, m: Message) -> Session
-    requires { Ruled (held session room.old window.old) }
-    ensures { Ruled (held result room.new window.new) }
-{
-    let taken = sent(session, room, window, seq, m, none());
-    taken.session
 }
 
 // By the first letter of a kind: add, keep, top.
-fn nth(
-    rt: &impl Print,
-    session: Session,
-    room: &mut Room,
-    window: &mut Window,
-    kind: u8,
-    k: u16,
-) -> io::Result<Session>
-    requires { Ruled (held session room.old window.old) }
-    ensures ok { IfOk result (λ next. Ruled (held next room.new window.new)) }
-    ensures err { OnErr result ((session : Table) × Ruled (held session room.new window.new)) }
+fn nth(owned: &mut Owned, kind: u8, k: u16)
+    requires { Ruled (held_by owned.old) }
+    ensures { Ruled (held_by owned.new) }
 {
     let seq = k as u32 + 1;
-    match kind {
-        b'a' => Ok(then(session, room, window, seq, add(k, b'B', 300, 1250000))),
-        b'k' => keeping::then(rt, session, room, window, seq, add(k, b'B', 300, 1250000)),
-        _ => Ok(then(session, room, window, seq, top(k, 1260000, 1250000))),
-    }
+    let mut buf = [0u8; 256];
+    let _ = match kind {
+        b'a' => sent(owned, seq, add(k, b'B', 300, 1250000), none()),
+        b'k' => {
+            let size = packet_of(&mut buf, seq, add(k, b'B', 300, 1250000), none());
+            owned.keep(&buf[..size])
+        }
+        _ => sent(owned, seq, top(k, 1260000, 1250000), none()),
+    };
 }
 
 // The message that five words of a line name, from one of them on: its kind, its order, a side, and

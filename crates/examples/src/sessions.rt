@@ -1,23 +1,20 @@
 // Packets handed to a session: what they do to its tables, which are refused, what waits, and what is
 // asked for again. A line goes on with the session that the line before it left, and one with no label
 // prints nothing.
-ghost use Rattle.std.specs.Prelude.{IfOk, OnErr};
-ghost use Rattle.session.specs.Meaning.{held, Ruled};
-ghost use Rattle.session.specs.declared.state.Session.{Session as Table};
+ghost use Rattle.session.specs.Meaning.{Ruled};
+ghost use Rattle.session_owned.specs.Holding.{held_by};
 
 use crate::made::told;
 use crate::{answers, keeping, made};
-use book_room::room::Room;
+use book::tables::OpeningRule;
 use examples_cases::rows;
 use examples_cases::rows::number;
 use printing::answers::refusal;
-use printing::words::{bytes, colon, end, put};
+use printing::words::{bytes, put};
+use refusals::Refusal;
 use session::asking;
-use session::packets::Taken;
-use session::state::Session;
+use session_owned::Owned;
 use std::io;
-use window::asking::Asked;
-use window::places::Window;
 
 pub fn run(rt: &impl Print) -> io::Result<()> {
     executions(rt)?;
@@ -33,7 +30,7 @@ pub fn run(rt: &impl Print) -> io::Result<()> {
 fn executions(rt: &impl Print) -> io::Result<()> {
     lines(
         rt,
-        b"| open 1\n\
+        "| open 1\n\
         | take 1 add 0 B 300 1250000 executed 0 - 500 0\n\
         P9 order of 300, executed 500 | report\n\
         | open 1\n\
@@ -61,7 +58,7 @@ fn executions(rt: &impl Print) -> io::Result<()> {
 fn orders(rt: &impl Print) -> io::Result<()> {
     lines(
         rt,
-        b"| open 1\n\
+        "| open 1\n\
         | take 1 add 0 B 300 1250000 add 0 S 100 1\n\
         Add of a live order | report\n\
         | open 1\n\
@@ -90,7 +87,7 @@ fn orders(rt: &impl Print) -> io::Result<()> {
 fn broken(rt: &impl Print) -> io::Result<()> {
     lines(
         rt,
-        b"| strict 1\n\
+        "| strict 1\n\
         | take 1 add 0 B 300 1250000\n\
         | damage 2 14 74 delete 0\n\
         1: a type that is not listed, strictly | report\n\
@@ -115,7 +112,7 @@ fn broken(rt: &impl Print) -> io::Result<()> {
 fn bests(rt: &impl Print) -> io::Result<()> {
     lines(
         rt,
-        b"| open 1\n\
+        "| open 1\n\
         | take 1 add 0 B 300 1250000 add 1 B 200 1250000\n\
         | take 3 add 2 B 900 1240000\n\
         bids 300 and 200 at 1,250,000, 900 at 1,240,000 | report\n\
@@ -133,7 +130,7 @@ fn bests(rt: &impl Print) -> io::Result<()> {
 fn full(rt: &impl Print) -> io::Result<()> {
     lines(
         rt,
-        b"| fill 256 add\n\
+        "| fill 256 add\n\
         256 live orders | report\n\
         | take 257 add 256 B 1 1\n\
         the 257th order | report\n\
@@ -156,7 +153,7 @@ fn full(rt: &impl Print) -> io::Result<()> {
 fn numbers(rt: &impl Print) -> io::Result<()> {
     lines(
         rt,
-        b"| open 1000\n\
+        "| open 1000\n\
         P7 opened at 1,000, number 1,255 | take 1255 add 0 B 300 1250000\n\
         P7 gap from 1,000 | gap 1000\n\
         | open 1000\n\
@@ -178,7 +175,7 @@ fn numbers(rt: &impl Print) -> io::Result<()> {
 fn copies(rt: &impl Print) -> io::Result<()> {
     lines(
         rt,
-        b"| open 10\n\
+        "| open 10\n\
         opened at 10, number 10 | take 10 add 0 B 300 1250000\n\
         then numbers 10 and 11 (half of it old) | take 10 add 0 B 300 1250000 add 1 B 300 1250000\n\
         and its tables | report\n\
@@ -201,7 +198,7 @@ fn copies(rt: &impl Print) -> io::Result<()> {
 fn missing(rt: &impl Print) -> io::Result<()> {
     lines(
         rt,
-        b"| open 10\n\
+        "| open 10\n\
         P12 opened at 10, numbers 12 and 13 | take 12 add 0 B 300 1250000 add 1 B 300 1250000\n\
         P12 requests | write 24\n\
         P12 requests, exact room | write 12\n\
@@ -220,181 +217,101 @@ fn missing(rt: &impl Print) -> io::Result<()> {
 }
 
 // Each line in turn.
-pub fn lines(rt: &impl Print, table: &[u8]) -> io::Result<()> {
-    let mut room = [0u64; Session::ROOM];
-    let mut window = [0u8; Session::PLACES];
-    let mut session = Session::open(0, &mut room, &mut window);
-    let mut from = 0;
-    while from < table.len() {
-        let stop = rows::find(table, from, b'\n');
-        session = step(rt, session, &mut room, &mut window, &table[from..stop])?;
-        from = stop + 1;
+pub fn lines(rt: &impl Print, table: &str) -> io::Result<()> {
+    let mut owned = Owned::open(0, OpeningRule::Default);
+    for line in table.lines() {
+        step(rt, &mut owned, line.as_bytes())?;
     }
     Ok(())
 }
 
 // By the first letter: open, by default or strictly, fill, a packet, what is kept and applied, or a question.
-fn step(
-    rt: &impl Print,
-    session: Session,
-    room: &mut Room,
-    window: &mut Window,
-    line: &[u8],
-) -> io::Result<Session>
-    requires { Ruled (held session room.old window.old) }
-    ensures ok { IfOk result (λ next. Ruled (held next room.new window.new)) }
-    ensures err { OnErr result ((session : Table) × Ruled (held session room.new window.new)) }
+fn step(rt: &impl Print, owned: &mut Owned, line: &[u8]) -> io::Result<()>
+    requires { Ruled (held_by owned.old) }
+    ensures { Ruled (held_by owned.new) }
 {
     let n = (number(line, 1) % 4294967296) as u32;
     match rows::letter(line, 0) {
-        b'o' => Ok(made::fresh(room, window, n)),
-        b's' => Ok(made::strict(room, window, n)),
-        b'f' => filled(rt, room, window, n, line),
-        b't' | b'e' | b'd' | b'b' => took(rt, session, room, window, n, line),
-        b'k' | b'a' => keeping::step(rt, session, room, window, n, line),
-        _ => {
-            question(rt, session, room, window, line)?;
-            Ok(session)
-        }
-    }
-}
-
-// So many of a kind.
-fn filled(
-    rt: &impl Print,
-    room: &mut Room,
-    window: &mut Window,
-    count: u32,
-    line: &[u8],
-) -> io::Result<Session>
-    requires { (session : Table) × Ruled (held session room.old window.old) }
-    ensures ok { IfOk result (λ next. Ruled (held next room.new window.new)) }
-    ensures err { OnErr result ((session : Table) × Ruled (held session room.new window.new)) }
-{
-    made::filled(
-        rt,
-        room,
-        window,
-        rows::letter(line, 2),
-        (count % 1000) as u16,
-    )
-}
-
-// A packet taken, and its answer where the line has a label.
-fn took(
-    rt: &impl Print,
-    session: Session,
-    room: &mut Room,
-    window: &mut Window,
-    n: u32,
-    line: &[u8],
-) -> io::Result<Session>
-    requires { Ruled (held session room.old window.old) }
-    ensures ok { IfOk result (λ next. Ruled (held next room.new window.new)) }
-    ensures err { OnErr result ((session : Table) × Ruled (held session room.new window.new)) }
-{
-    let taken = handed(session, room, window, n, line);
-    let label = rows::label(line);
-    if label.len() != 0 {
-        let answer = taken.answer;
-        answers::taken(rt, label, room, answer)?;
-    }
-    Ok(taken.session)
-}
-
-// By the first letter: take, empty, damage, beat.
-fn handed(session: Session, room: &mut Room, window: &mut Window, n: u32, line: &[u8]) -> Taken
-    requires { Ruled (held session room.old window.old) }
-    ensures { Ruled (held result.session room.new window.new) }
-{
-    match rows::letter(line, 0) {
-        b't' => sent(session, room, window, n, line),
-        b'e' => made::empty(session, room, window, n, line),
-        b'd' => damaged(session, room, window, n, line),
-        _ => made::beat(session, room, window, n),
-    }
-}
-
-// One message or two.
-fn sent(session: Session, room: &mut Room, window: &mut Window, seq: u32, line: &[u8]) -> Taken
-    requires { Ruled (held session room.old window.old) }
-    ensures { Ruled (held result.session room.new window.new) }
-{
-    made::sent(session, room, window, seq, told(line, 2), told(line, 7))
-}
-
-// A place, a byte, and the message with that byte at that place of its packet.
-fn damaged(session: Session, room: &mut Room, window: &mut Window, seq: u32, line: &[u8]) -> Taken
-    requires { Ruled (held session room.old window.old) }
-    ensures { Ruled (held result.session room.new window.new) }
-{
-    let at = rows::place(line, 2);
-    let byte = (number(line, 3) % 256) as u8;
-    made::damaged(session, room, window, seq, told(line, 4), at, byte)
-}
-
-// By the first letter: gap, write the requests, report, lowest, unlisted, code.
-fn question(
-    rt: &impl Print,
-    session: Session,
-    room: &Room,
-    window: &Window,
-    line: &[u8],
-) -> io::Result<()>
-    requires { Ruled (held session room.now window.now) }
-{
-    put(rt, rows::label(line))?;
-    match rows::letter(line, 0) {
-        b'g' => gap(rt, room, window, number(line, 1))?,
-        b'w' => requests(rt, room, window, rows::place(line, 1))?,
-        b'r' => answers::report(rt, session, room)?,
-        b'l' => answers::lowest(rt, room, window)?,
-        b'u' => answers::unlisted(rt, room)?,
-        _ => answers::code(rt, room)?,
-    }
-    end(rt)
-}
-
-fn gap(rt: &impl Print, room: &Room, window: &Window, from: u64) -> io::Result<()>
-    requires { (session : Table) × Ruled (held session room.now window.now) }
-{
-    let gap = asking::gap(room, window, from);
-    put(rt, b":")?;
-    printing::words::number(rt, gap.start)?;
-    printing::words::number(rt, gap.count)
-}
-
-// The requests written to the first `size` bytes of a buffer of 0xEE.
-fn requests(rt: &impl Print, room: &Room, window: &Window, size: usize) -> io::Result<()>
-    requires { (session : Table) × Ruled (held session room.now window.now) }
-{
-    colon(rt)?;
-    let mut buf = [0xEEu8; 24];
-    requested(rt, room, window, &mut buf, size)?;
-    bytes(rt, &buf)
-}
-
-fn requested(
-    rt: &impl Print,
-    room: &Room,
-    window: &Window,
-    buf: &mut [u8],
-    size: usize,
-) -> io::Result<()>
-    requires { (session : Table) × Ruled (held session room.now window.now) }
-{
-    if size <= buf.len() {
-        asked(rt, asking::requests(room, window, &mut buf[0..size]))?;
+        b'o' => owned.reopen(n, OpeningRule::Default),
+        b's' => owned.reopen(n, OpeningRule::Strict),
+        b'f' => made::filled(owned, rows::letter(line, 2), (n % 1000) as u16),
+        b't' | b'e' | b'd' | b'b' => took(rt, owned, n, line)?,
+        b'k' | b'a' => keeping::step(rt, owned, n, line)?,
+        _ => question(rt, owned, line)?,
     }
     Ok(())
 }
 
-fn asked(rt: &impl Print, said: Asked) -> io::Result<()> {
-    match said {
-        Asked::Count(count) => {
-            put(rt, b"wrote")?;
-            printing::words::number(rt, count as u64)
-        }
-        Asked::Refused(number) => refusal(rt, number),
+// A packet taken, and its answer where the line has a label.
+fn took(rt: &impl Print, owned: &mut Owned, n: u32, line: &[u8]) -> io::Result<()>
+    requires { Ruled (held_by owned.old) }
+    ensures { Ruled (held_by owned.new) }
+{
+    let answer = handed(owned, n, line);
+    let label = rows::label(line);
+    if !label.is_empty() {
+        answers::taken(rt, label, owned, answer)?;
     }
+    Ok(())
+}
+
+// By the first letter: take, empty, damage, beat.
+fn handed(owned: &mut Owned, n: u32, line: &[u8]) -> Result<u64, Refusal>
+    requires { Ruled (held_by owned.old) }
+    ensures { Ruled (held_by owned.new) }
+{
+    match rows::letter(line, 0) {
+        b't' => made::sent(owned, n, told(line, 2), told(line, 7)),
+        b'e' => made::empty(owned, n, line),
+        b'd' => damaged(owned, n, line),
+        _ => made::beat(owned, n),
+    }
+}
+
+// A place, a byte, and the message with that byte at that place of its packet.
+fn damaged(owned: &mut Owned, seq: u32, line: &[u8]) -> Result<u64, Refusal>
+    requires { Ruled (held_by owned.old) }
+    ensures { Ruled (held_by owned.new) }
+{
+    let at = rows::place(line, 2);
+    let byte = (number(line, 3) % 256) as u8;
+    made::damaged(owned, seq, told(line, 4), at, byte)
+}
+
+// By the first letter: gap, write the requests, report, lowest, unlisted, code.
+fn question(rt: &impl Print, owned: &Owned, line: &[u8]) -> io::Result<()>
+    requires { Ruled (held_by owned.now) }
+{
+    put(rt, rows::label(line))?;
+    match rows::letter(line, 0) {
+        b'g' => gap(rt, owned, number(line, 1))?,
+        b'w' => requests(rt, owned, rows::place(line, 1))?,
+        b'r' => answers::report(rt, owned)?,
+        b'l' => answers::lowest(rt, owned)?,
+        b'u' => answers::unlisted(rt, owned)?,
+        _ => answers::code(rt, owned)?,
+    }
+    println!(rt; "")
+}
+
+fn gap(rt: &impl Print, owned: &Owned, from: u64) -> io::Result<()>
+    requires { Ruled (held_by owned.now) }
+{
+    let gap = asking::gap(&owned.room, &owned.window, from);
+    print!(rt; ": {} {}", gap.start, gap.count)
+}
+
+// The requests written to the first `size` bytes of a buffer of 0xEE.
+fn requests(rt: &impl Print, owned: &Owned, size: usize) -> io::Result<()>
+    requires { Ruled (held_by owned.now) }
+{
+    print!(rt; ": ")?;
+    let mut buf = [0xEEu8; 24];
+    if size <= 24 {
+        match asking::requests(&owned.room, &owned.window, &mut buf[..size]) {
+            Ok(count) => print!(rt; "wrote {count}")?,
+            Err(refused) => refusal(rt, refused)?,
+        }
+    }
+    bytes(rt, &buf)
 }

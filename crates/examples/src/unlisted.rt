@@ -14,7 +14,7 @@ pub fn run(rt: &impl Print) -> io::Result<()> {
 fn by_default(rt: &impl Print) -> io::Result<()> {
     lines(
         rt,
-        b"at the start | unlisted\n\
+        "at the start | unlisted\n\
         | open 10\n\
         opened at 10 by default | unlisted\n\
         | take 10 add 0 B 300 1250000\n\
@@ -34,7 +34,7 @@ fn by_default(rt: &impl Print) -> io::Result<()> {
 fn strictly(rt: &impl Print) -> io::Result<()> {
     lines(
         rt,
-        b"| strict 10\n\
+        "| strict 10\n\
         opened at 10 strictly | unlisted\n\
         an Imbalance | damage 10 14 28 delete 0\n\
         strictly (28 is listed) | unlisted\n\
@@ -55,7 +55,7 @@ fn strictly(rt: &impl Print) -> io::Result<()> {
 fn among_faults(rt: &impl Print) -> io::Result<()> {
     lines(
         rt,
-        b"| open 10\n\
+        "| open 10\n\
         | damage 10 14 255 delete 0\n\
         | take 11 delete 0 - - - delete 0\n\
         | empty 13 0 28 28 29\n\
@@ -79,7 +79,7 @@ fn among_faults(rt: &impl Print) -> io::Result<()> {
 fn later(rt: &impl Print) -> io::Result<()> {
     lines(
         rt,
-        b"| open 10\n\
+        "| open 10\n\
         numbers 11 to 14 (they wait) | empty 11 0 10 29 255\n\
         by default | unlisted\n\
         then number 10 (the others follow it) | take 10 add 0 B 300 1250000\n\

@@ -16,7 +16,7 @@ pub fn run(rt: &impl Print) -> io::Result<()> {
 fn full(rt: &impl Print) -> io::Result<()> {
     lines(
         rt,
-        b"| fill 256 keep\n\
+        "| fill 256 keep\n\
         256 wait from 1 on, apply by 0 | apply 0\n\
         then 257 (one too many) | keep 257 delete 0\n\
         apply by 1 | apply 1\n\
@@ -33,7 +33,7 @@ fn full(rt: &impl Print) -> io::Result<()> {
 fn tables(rt: &impl Print) -> io::Result<()> {
     lines(
         rt,
-        b"| open 10\n\
+        "| open 10\n\
         opened at 10, lowest | lowest\n\
         numbers 10 and 11 kept | keep 10 add 0 B 300 1250000 executed 0 - 100 200\n\
         number 12 kept | keep 12 executed 0 - 500 0\n\
@@ -51,7 +51,7 @@ fn tables(rt: &impl Print) -> io::Result<()> {
 fn copies(rt: &impl Print) -> io::Result<()> {
     lines(
         rt,
-        b"| open 10\n\
+        "| open 10\n\
         opened at 10, numbers 10 and 11 kept | keep 10 add 0 B 300 1250000 add 1 B 300 1250000\n\
         then 11 with one byte changed | keep 11 add 1 B 301 1250000\n\
         then 11 with one byte changed, and 12 (end stays) | keep 11 add 1 B 301 1250000 add 2 B 300 1250000\n\
@@ -68,7 +68,7 @@ fn copies(rt: &impl Print) -> io::Result<()> {
 fn old(rt: &impl Print) -> io::Result<()> {
     lines(
         rt,
-        b"| open 10\n\
+        "| open 10\n\
         | take 10 add 0 B 300 1250000\n\
         10 applied, then 10 kept (old) | keep 10 add 0 B 300 1250000\n\
         then numbers 10 and 11 (half of it old) | keep 10 add 0 B 300 1250000 add 1 B 300 1250000\n\
@@ -80,7 +80,7 @@ fn old(rt: &impl Print) -> io::Result<()> {
 fn beats(rt: &impl Print) -> io::Result<()> {
     lines(
         rt,
-        b"| open 10\n\
+        "| open 10\n\
         opened at 10, heartbeat 12 kept (end moves) | keep 12 beat\n\
         then heartbeat 11 kept (end stays) | keep 11 beat\n\
         then numbers 10 and 11 (the heartbeat used up none) | keep 10 add 0 B 300 1250000 executed 0 - 100 200\n\
@@ -94,7 +94,7 @@ fn beats(rt: &impl Print) -> io::Result<()> {
 fn refusals(rt: &impl Print) -> io::Result<()> {
     lines(
         rt,
-        b"| open 10\n\
+        "| open 10\n\
         | keep 10 add 0 B 300 1250000\n\
         10 waits, 10 with one byte changed taken | take 10 add 0 B 301 1250000\n\
         10 waits, 266 taken | take 266 delete 0\n\
@@ -110,7 +110,7 @@ fn refusals(rt: &impl Print) -> io::Result<()> {
 fn missing(rt: &impl Print) -> io::Result<()> {
     lines(
         rt,
-        b"| open 10\n\
+        "| open 10\n\
         | keep 10 add 0 B 300 1250000 add 1 B 300 1250000\n\
         numbers 10, 11 and 14 kept | keep 14 add 2 B 300 1250000\n\
         then heartbeat 600 | keep 600 beat\n\

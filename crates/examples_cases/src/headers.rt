@@ -1,46 +1,38 @@
 // Headers: each test of 1 to 6 alone, at both ends of its range, and with a later one.
-use crate::messages::copy;
+ghost use Rattle.std.specs.Prelude.{◌≤◌, length};
+
+use crate::rows;
 use crate::rows::number;
-use crate::tables::Table;
-use crate::{rows, tables};
 use printing::answers;
-use printing::words::{colon, put};
+use printing::words::label;
 use std::io;
 
 // A header of these fields, PacketSize, SeqNum, PacketFlag and Messages, in so many lent bytes, the rest zero.
-pub fn case(rt: &impl Print, line: &[u8]) -> io::Result<()> {
+fn case(rt: &impl Print, line: &[u8]) -> io::Result<()> {
     let mut packet = [0u8; 2048];
-    copy(&front(line), &mut packet);
+    put_front(&mut packet, line);
     let length = rows::place(line, 4);
     if length <= 2048 {
-        put(rt, rows::label(line))?;
-        colon(rt)?;
-        answers::header(rt, packet::read_header(&packet[0..length]))?;
+        label(rt, rows::label(line))?;
+        answers::header(rt, packet::read_header(&packet[..length]))?;
     }
     Ok(())
 }
 
 // The first bytes of a header of these fields.
-pub fn front(line: &[u8]) -> [u8; 8] {
-    let size = number(line, 0);
-    let seq = number(line, 1);
-    [
-        (size / 256 % 256) as u8,
-        (size % 256) as u8,
-        (seq / 16777216 % 256) as u8,
-        (seq / 65536 % 256) as u8,
-        (seq / 256 % 256) as u8,
-        (seq % 256) as u8,
-        (number(line, 2) % 256) as u8,
-        (number(line, 3) % 256) as u8,
-    ]
+pub fn put_front(packet: &mut [u8], line: &[u8])
+    requires { 8 ≤ length packet.old }
+{
+    wire::put_u16(packet, 0, (number(line, 0) % 65536) as u16);
+    wire::put_u32(packet, 2, (number(line, 1) % 4294967296) as u32);
+    wire::put_u8(packet, 6, (number(line, 2) % 256) as u8);
+    wire::put_u8(packet, 7, (number(line, 3) % 256) as u8);
 }
 
 pub fn run(rt: &impl Print) -> io::Result<()> {
-    tables::run(
+    cases(
         rt,
-        Table::Headers,
-        b"header, no byte lent | 12 1 1 0 0\n\
+        "header, no byte lent | 12 1 1 0 0\n\
         header, 11 bytes lent | 11 1 1 0 11\n\
         header, 11 bytes lent, a reserved bit too | 11 1 2 0 11\n\
         header, 12 bytes lent | 12 1 1 0 12\n\
@@ -53,10 +45,9 @@ pub fn run(rt: &impl Print) -> io::Result<()> {
         header, PacketSize 65,535 | 65535 1 0 1 1472\n\
         header, PacketSize wrong, a reserved bit too | 13 1 2 1 12\n",
     )?;
-    tables::run(
+    cases(
         rt,
-        Table::Headers,
-        b"header, bit 1 set | 13 7 2 1 13\n\
+        "header, bit 1 set | 13 7 2 1 13\n\
         header, bit 7 set | 13 7 128 1 13\n\
         header, every bit set | 12 7 255 0 12\n\
         header, bit 1 set and Messages 0 | 13 7 2 0 13\n\
@@ -70,4 +61,11 @@ pub fn run(rt: &impl Print) -> io::Result<()> {
         no heartbeat of 12 bytes, Messages 0 | 12 7 0 0 12\n\
         no heartbeat, Messages 255 | 13 7 0 255 13\n",
     )
+}
+
+fn cases(rt: &impl Print, table: &str) -> io::Result<()> {
+    for line in table.lines() {
+        case(rt, line.as_bytes())?;
+    }
+    Ok(())
 }

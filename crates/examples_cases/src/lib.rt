@@ -10,6 +10,5 @@ pub mod messages;
 pub mod rows;
 mod samples;
 pub mod sweeps;
-mod tables;
 pub mod walks;
 pub mod writes;

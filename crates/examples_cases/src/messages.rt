@@ -1,17 +1,15 @@
 // Messages: each type, each field rule, and the size at both ends.
 use crate::rows::number;
-use crate::tables::Table;
-use crate::{rows, samples, tables};
+use crate::{rows, samples};
 use printing::answers;
-use printing::words::{colon, put};
+use printing::words::{Texts, label};
 use std::io;
 
 // A good message of a type with MessageSize set to a size, of which so many bytes are lent, zeros
 // behind its end, and at a place a number of a width: type, size, length, place, width and number.
-pub fn case(rt: &impl Print, line: &[u8]) -> io::Result<()> {
-    let samples = samples::all();
+fn case(rt: &impl Print, line: &[u8]) -> io::Result<()> {
     let mut bytes = [0u8; 256];
-    copy(samples::of_type(&samples, number(line, 0)), &mut bytes);
+    copy(samples::of_type(number(line, 0)), &mut bytes);
     patch(&mut bytes, 0, 2, number(line, 1));
     patch(
         &mut bytes,
@@ -21,9 +19,8 @@ pub fn case(rt: &impl Print, line: &[u8]) -> io::Result<()> {
     );
     let length = rows::place(line, 2);
     if length <= 256 {
-        put(rt, rows::label(line))?;
-        colon(rt)?;
-        answers::message(rt, message_read::read(&bytes[0..length]), true)?;
+        label(rt, rows::label(line))?;
+        answers::message(rt, message_read::read(&bytes[..length]), Texts::Quoted)?;
     }
     Ok(())
 }
@@ -42,15 +39,10 @@ fn patch(bytes: &mut [u8], at: usize, width: u64, value: u64) {
     }
 }
 
-pub fn copy(from: &[u8], to: &mut [u8]) {
-    let mut k = 0;
-    while k < from.len() {
-        if to.len() <= k {
-            return;
-        }
-        to[k] = from[k];
-        k += 1;
-    }
+// As much as fits.
+fn copy(from: &[u8], to: &mut [u8]) {
+    let count = from.len().min(to.len());
+    to[..count].copy_from_slice(&from[..count]);
 }
 
 pub fn run(rt: &impl Print) -> io::Result<()> {
@@ -61,11 +53,17 @@ pub fn run(rt: &impl Print) -> io::Result<()> {
     shares(rt)
 }
 
+fn cases(rt: &impl Print, table: &str) -> io::Result<()> {
+    for line in table.lines() {
+        case(rt, line.as_bytes())?;
+    }
+    Ok(())
+}
+
 fn references(rt: &impl Print) -> io::Result<()> {
-    tables::run(
+    cases(
         rt,
-        Table::Messages,
-        b"Security, exact size | 9 36 36 0 0 0\n\
+        "Security, exact size | 9 36 36 0 0 0\n\
         Security, one byte short | 9 35 35 0 0 0\n\
         Security, a symbol that starts with a space has no rule | 9 36 36 3 1 32\n\
         Start of Spin, exact size | 11 16 16 0 0 0\n\
@@ -82,10 +80,9 @@ fn references(rt: &impl Print) -> io::Result<()> {
 }
 
 fn sizes(rt: &impl Print) -> io::Result<()> {
-    tables::run(
+    cases(
         rt,
-        Table::Messages,
-        b"Order Add, exact size | 21 55 55 0 0 0\n\
+        "Order Add, exact size | 21 55 55 0 0 0\n\
         Order Add, MessageSize 54 (P5) | 21 54 54 0 0 0\n\
         Order Add, MessageSize 56 (P6) | 21 56 56 0 0 0\n\
         Order Add, MessageSize 52, the payload alone | 21 52 52 0 0 0\n\
@@ -102,10 +99,9 @@ fn sizes(rt: &impl Print) -> io::Result<()> {
 }
 
 fn adds(rt: &impl Print) -> io::Result<()> {
-    tables::run(
+    cases(
         rt,
-        Table::Messages,
-        b"Order Add, a small letter in the id | 21 55 55 18 1 97\n\
+        "Order Add, a small letter in the id | 21 55 55 18 1 97\n\
         Order Add, a small letter in the id's last two | 21 55 55 19 1 97\n\
         Order Add, side S | 21 55 55 21 1 83\n\
         Order Add, side X | 21 55 55 21 1 88\n\
@@ -126,10 +122,9 @@ fn adds(rt: &impl Print) -> io::Result<()> {
 }
 
 fn orders(rt: &impl Print) -> io::Result<()> {
-    tables::run(
+    cases(
         rt,
-        Table::Messages,
-        b"Order Update, exact size | 22 35 35 0 0 0\n\
+        "Order Update, exact size | 22 35 35 0 0 0\n\
         Order Update, one byte short | 22 34 34 0 0 0\n\
         Order Update, quantity 0 | 22 35 35 21 4 0\n\
         Order Update, price 0 | 22 35 35 25 8 0\n\
@@ -152,10 +147,9 @@ fn orders(rt: &impl Print) -> io::Result<()> {
 }
 
 fn shares(rt: &impl Print) -> io::Result<()> {
-    tables::run(
+    cases(
         rt,
-        Table::Messages,
-        b"Top of Book, exact size | 26 46 46 0 0 0\n\
+        "Top of Book, exact size | 26 46 46 0 0 0\n\
         Top of Book, one byte short | 26 45 45 0 0 0\n\
         Top of Book, ask 0 | 26 46 46 21 8 0\n\
         Top of Book, bid 0 | 26 46 46 33 8 0\n\

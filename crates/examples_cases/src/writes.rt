@@ -1,11 +1,10 @@
 // Writing: each type at a place in a buffer of 0xEE, the buffer whole, and the message read back.
 use crate::rows::number;
-use crate::tables::Table;
-use crate::{rows, samples, tables};
+use crate::{rows, samples};
 use packet::Header;
 use printing::answers;
 use printing::answers::written;
-use printing::words::{bytes, colon, end, put};
+use printing::words::{Texts, bytes, label};
 use std::io;
 
 pub fn run(rt: &impl Print) -> io::Result<()> {
@@ -14,16 +13,14 @@ pub fn run(rt: &impl Print) -> io::Result<()> {
 }
 
 // A good message of a type written at a place in the first bytes of a buffer: type, room and place.
-pub fn case(rt: &impl Print, line: &[u8]) -> io::Result<()> {
-    put(rt, rows::label(line))?;
-    colon(rt)?;
-    let samples = samples::all();
-    let good = samples::of_type(&samples, number(line, 0));
+fn case(rt: &impl Print, line: &[u8]) -> io::Result<()> {
+    label(rt, rows::label(line))?;
+    let good = samples::of_type(number(line, 0));
     let at = rows::place(line, 2);
     let mut buffer = [0xEEu8; 64];
     write(rt, good, &mut buffer, rows::place(line, 1), at)?;
     bytes(rt, &buffer)?;
-    end(rt)?;
+    println!(rt; "")?;
     back(rt, &buffer, good.len(), at)
 }
 
@@ -35,11 +32,9 @@ fn write(
     at: usize,
 ) -> io::Result<()> {
     if room <= buffer.len() {
-        let answer = message_read::read(good);
-        written(
-            rt,
-            message_write::write(answer.message, &mut buffer[0..room], at),
-        )?;
+        if let Ok(message) = message_read::read(good) {
+            written(rt, message_write::write(message, &mut buffer[..room], at))?;
+        }
     }
     Ok(())
 }
@@ -49,21 +44,20 @@ fn back(rt: &impl Print, buffer: &[u8], size: usize, at: usize) -> io::Result<()
     if at <= buffer.len() {
         if size <= buffer.len() - at {
             let end = at + size;
-            put(rt, b"  read back: ")?;
-            answers::message(rt, message_read::read(&buffer[at..end]), true)?;
+            print!(rt; "  read back: ")?;
+            answers::message(rt, message_read::read(&buffer[at..end]), Texts::Quoted)?;
         }
     }
     Ok(())
 }
 
 // A header of this size, flag and count of messages, written to the first bytes of a buffer.
-pub fn header(rt: &impl Print, line: &[u8]) -> io::Result<()> {
-    put(rt, rows::label(line))?;
-    colon(rt)?;
+fn header(rt: &impl Print, line: &[u8]) -> io::Result<()> {
+    label(rt, rows::label(line))?;
     let mut buffer = [0xEEu8; 16];
     write_header(rt, header_of(line), &mut buffer, rows::place(line, 3))?;
     bytes(rt, &buffer)?;
-    end(rt)
+    println!(rt; "")
 }
 
 fn header_of(line: &[u8]) -> Header {
@@ -81,17 +75,15 @@ fn header_of(line: &[u8]) -> Header {
 
 fn write_header(rt: &impl Print, header: Header, buffer: &mut [u8], room: usize) -> io::Result<()> {
     if room <= buffer.len() {
-        written(rt, packet::write_header(header, &mut buffer[0..room]))?;
+        written(rt, packet::write_header(header, &mut buffer[..room]))?;
     }
     Ok(())
 }
 
 // Type, room and place.
 fn messages(rt: &impl Print) -> io::Result<()> {
-    tables::run(
-        rt,
-        Table::Writes,
-        b"write Security | 9 64 3\n\
+    let writes =
+        "write Security | 9 64 3\n\
         write Start of Spin | 11 64 3\n\
         write End of Spin | 12 64 3\n\
         write Trading Session | 20 64 3\n\
@@ -107,21 +99,25 @@ fn messages(rt: &impl Print) -> io::Result<()> {
         write Order Delete behind the end | 23 24 25\n\
         write Order Delete at the largest place | 23 24 18446744073709551615\n\
         write Imbalance | 28 64 0\n\
-        write Imbalance behind the end | 28 0 1\n",
-    )
+        write Imbalance behind the end | 28 0 1\n";
+    for line in writes.lines() {
+        case(rt, line.as_bytes())?;
+    }
+    Ok(())
 }
 
 fn headers(rt: &impl Print) -> io::Result<()> {
-    tables::run(
-        rt,
-        Table::WrittenHeaders,
-        b"write header | 67 0 1 16\n\
+    let writes =
+        "write header | 67 0 1 16\n\
         write header of a heartbeat | 12 1 0 12\n\
         write header, 11 bytes of buffer | 12 1 0 11\n\
         write header, size 11 | 11 1 0 16\n\
         write header, size 1,473 | 1473 0 1 16\n\
         write header, a reserved bit | 67 2 1 16\n\
         write header, a heartbeat of 13 bytes | 13 1 0 16\n\
-        write header, Messages 0, no buffer | 67 0 0 0\n",
-    )
+        write header, Messages 0, no buffer | 67 0 0 0\n";
+    for line in writes.lines() {
+        header(rt, line.as_bytes())?;
+    }
+    Ok(())
 }

@@ -1,6 +1,12 @@
 -- Laws of the tests that the rules are made of.
 use Rattle.std.proofs.Common.{◌≡◌, ℕ, zero, suc, ◌<◌, ◌≤◌, Bool, true, false, ◌&&◌, leb, List, get_or, take, sym, refl, ap, ◌∙◌, ap₂, ⊎_elim, le_of_suc-le-suc, not-suc-le-zero, eq-or-lt_of_le, get_or-take, leb-true}
 use mathlib.Core.Bool.{and-false}
+use native.Mathlib.Numerals.{add-one}
+use native.Mathlib.Omega.{arith}
+use lib.ListN.{length}
+use lib.Seq.{take_all}
+use Rattle.std.specs.List.{list_all}
+use Rattle.std.proofs.lemmas.List.Folds.{list_all_more}
 use native.Mathlib.Nat.{le_of_suc-le}
 use Rattle.fields.specs.Tests.{between, first_all}
 
@@ -48,6 +54,16 @@ module _ (test : ℕ → Bool) (bytes : List ℕ) where
   pub all_fail : (k n : ℕ) → k < n → test (get_or bytes k 0) ≡ false → first_all test n bytes ≡ false
   unfolding first_all
   all_fail k n h e = all_longer (suc k) n h (ap (λ (b : Bool). first_all test k bytes && b) e ∙ and-false (first_all test k bytes))
+
+  -- the bytes all pass exactly where the first of them do, as many as there are
+  all_first : (k : ℕ) → k ≤ length bytes → first_all test k bytes ≡ list_all test (take k bytes)
+  unfolding first_all
+  all_first zero h = refl
+  all_first (suc k) h =
+      rw (← add-one k, list_all_more test bytes k 0 h) (ap (λ (b : Bool). b && test (get_or bytes k 0)) (all_first k (le_of_suc-le h)))
+
+  pub all_listed : (k : ℕ) → length bytes ≡ k → first_all test k bytes ≡ list_all test bytes
+  all_listed k e = all_first k (omega arith) ∙ ap (list_all test) (take_all k bytes (omega arith))
 
   -- no byte past the first k counts
   pub all_take : (k n : ℕ) → k ≤ n → first_all test k (take n bytes) ≡ first_all test k bytes

@@ -1,36 +1,37 @@
 -- Looking along numbers, from where the look is; and the runs by where each begins and ends.
 -- Assumes nothing.
-use mathlib.Core.Path.{◌≡◌, refl, ◌∙◌}
-use mathlib.Core.Bool.{Bool, true, false, not, cond}
+use mathlib.Core.Path.{◌≡◌, refl, ap, ◌∙◌, sym}
+use mathlib.Core.Bool.{Bool, beq, true, false, not, cond}
 use mathlib.Core.List.{List}
-use Prim.Native.Nat.{ℕ, zero, suc, ◌+◌, ◌-◌, ◌%◌, ◌≤◌, ◌<◌}
+use Rattle.std.specs.Prelude.{MatchOption, Option, None, Some}
+use Rattle.std.specs.Option.{unwrap_or}
+use Prim.Native.Nat.{ℕ, zero, suc, ◌+◌, ◌-◌, ◌≤◌, ◌<◌}
+use mathlib.Core.Logic.{by_cases}
+use native.Mathlib.Decide.{ℕ_discrete}
 use native.Mathlib.Omega.{arith}
-use lib.Dec.{eqb}
-use Rattle.window.specs.Runs.{first_from, missing_is, run_from, IsFirst, IsRun}
+use Rattle.window.specs.Runs.{first_from, missing_in, missing_is, run_from, IsFirst, IsRun}
 use Rattle.window.specs.declared.missing.Gap.{Gap}
-use Rattle.window.specs.Window.{size_at}
 
 pub record Between (low high x : ℕ) : Type 0 where
   pub least : low ≤ x
   pub most : x ≤ high
 
 module _ (test : ℕ → Bool) where
-  pub first_here : (k n : ℕ) → 0 < n → test k ≡ true → first_from test k n ≡ k
+  -- none passes, or a first one does
+  pub first_none : (k n : ℕ) → ((j : ℕ) → k ≤ j → j < k + n → test j ≡ false) → first_from test k n ≡ k + n
   unfolding first_from
-  first_here k zero some h = absurd (omega arith)
-  first_here k (suc n) some h = simp h
+  first_none k zero h = omega arith
+  first_none k (suc n) h =
+      let e : k + 1 + n ≡ k + suc n = omega arith in
+      simp (h k (omega arith) (omega arith)) (first_none (k + 1) n (λ j low high. h j (omega arith) (omega arith)) ∙ e)
 
-  pub first_on : (k n : ℕ) → 0 < n → test k ≡ false → first_from test k n ≡ first_from test (k + 1) (n - 1)
+  pub first_some : (k n i : ℕ) → k ≤ i → i < k + n → test i ≡ true → ((j : ℕ) → k ≤ j → j < i → test j ≡ false) → first_from test k n ≡ i
   unfolding first_from
-  first_on k zero some h = absurd (omega arith)
-  first_on k (suc n) some h =
-      let e : suc n - 1 ≡ n = omega arith in
-      simp (h, e)
-
-  pub first_none : (k n : ℕ) → n ≤ 0 → first_from test k n ≡ k
-  unfolding first_from
-  first_none k zero none = refl
-  first_none k (suc n) none = absurd (omega arith)
+  first_some k zero i low high here h = absurd (omega arith)
+  first_some k (suc n) i low high here h =
+      by_cases (ℕ_discrete k i)
+      (λ e. simp (ap test e ∙ here) e)
+      (λ other. simp (h k (omega arith) (omega arith)) (first_some (k + 1) n i (omega arith) (omega arith) here (λ j l m. h j (omega arith) m)))
 
   -- it is not before k, nor behind all n
   pub first_between : (k n : ℕ) → Between k (k + n) (first_from test k n)
@@ -42,13 +43,18 @@ module _ (test : ℕ → Bool) where
       go true h = record { least = omega arith; most = omega arith }
       go false h = record { least = omega arith; most = omega arith }
 
--- a number by its place's size
-module _ (w : List ℕ) (k : ℕ) {wanted : Bool} {size : ℕ} (told : size ≡ size_at w (k % 256)) where
-  pub is-missing : wanted ≡ true → eqb size 0 ≡ missing_is w wanted k
-  is-missing e = rw (e, told)
-
-  pub is_there_lem : wanted ≡ false → not (eqb size 0) ≡ missing_is w wanted k
-  is_there_lem e = rw (e, told)
+-- a number that is looked for is missing or not, as wanted
+pub is_wanted : (w : List ℕ) (wanted : Bool) (k : ℕ) → beq (missing_in w k) wanted ≡ missing_is w wanted k
+is_wanted w true k = go (missing_in w k)
+  where
+    go : (b : Bool) → beq b true ≡ b
+    go true = refl
+    go false = refl
+is_wanted w false k = go (missing_in w k)
+  where
+    go : (b : Bool) → beq b false ≡ not b
+    go true = refl
+    go false = refl
 
 pub is_first : {test : ℕ → Bool} {from limit r : ℕ} → from ≤ limit → r ≡ first_from test from (limit - from) → IsFirst test from limit r
 is_first {test} {from} {limit} {r} h e =
@@ -66,3 +72,12 @@ is_run {missing} {from} {limit} {start} {stop} h a b e f =
       least = omega (arith, a.least);
       most = omega (arith, b.least, b.most);
     }
+
+-- what a look along a range finds, or the limit
+pub found_first : (test : ℕ → Bool) {from limit r : ℕ} (o : Option ℕ) → from ≤ limit
+    → MatchOption o ((k : ℕ) → from ≤ k → k < limit → test k ≡ false) (λ i. (from ≤ i) × (i < limit) × (test i ≡ true) × ((k : ℕ) → from ≤ k → k < i → test k ≡ false))
+    → r ≡ unwrap_or o limit → IsFirst test from limit r
+found_first test {from} {limit} None h none is =
+    let whole : from + (limit - from) ≡ limit = omega arith in
+    is_first h (is ∙ sym (first_none test from (limit - from) (λ j low high. none j low (omega arith)) ∙ whole))
+found_first test {from} {limit} (Some i) h seen is = is_first h (is ∙ sym (first_some test from (limit - from) i seen.0 (omega (arith, seen.1)) seen.2 seen.3))

@@ -5,12 +5,11 @@ ghost use Rattle.window.specs.Runs.{missing_in, missing_is, IsCount, IsFirst, Is
 use crate::places;
 use crate::places::{NUMBERS, Window};
 
-// A number is missing, or is not, as wanted.
-fn missing_is(window: &Window, wanted: bool, k: u64) -> bool
-    ensures { result ≡ missing_is window.now wanted k }
+// A number is missing where its place is free.
+fn is_missing(window: &Window, k: u64) -> bool
+    ensures { result ≡ missing_in window.now k }
 {
-    let size = places::size_at(window, (k % NUMBERS) as usize);
-    if wanted { size == 0 } else { size != 0 }
+    places::size_at(window, (k % NUMBERS) as usize) == 0
 }
 
 // The first number from a place on, below the limit, that is missing or is not, as wanted; else the limit.
@@ -18,14 +17,9 @@ pub fn first_number(window: &Window, wanted: bool, from: u64, limit: u64) -> u64
     requires { from ≤ limit }
     ensures { IsFirst (missing_is window.now wanted) from limit result }
 {
-    let mut k = from;
-    while k < limit {
-        if missing_is(window, wanted, k) {
-            return k;
-        }
-        k += 1;
-    }
-    k
+    (from..limit)
+        .find(|k| is_missing(window, *k) == wanted)
+        .unwrap_or(limit)
 }
 
 // A run of missing numbers, by its start and its count.

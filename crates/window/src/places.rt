@@ -1,6 +1,6 @@
 // Parts: one place of the window.
-ghost use Rattle.std.specs.Prelude.{◌≡◌, [], ◌∷◌, ◌+◌, ◌*◌, ◌≤◌, ◌<◌, eqb, length};
-ghost use Rattle.wire.specs.Number.{num, part, splice};
+ghost use Rattle.std.specs.Prelude.{◌≡◌, ◌+◌, ◌*◌, ◌≤◌, ◌<◌, eqb, length};
+ghost use Rattle.wire.specs.Number.{part, splice};
 ghost use Rattle.window.specs.Window.{agreeing, size_at, start_of, zeros};
 
 // How many numbers may wait, the bytes of a place, which has room for a longest message, and the bytes of all places.
@@ -13,19 +13,12 @@ pub const BYTES: usize = (NUMBERS as usize) * PLACE;
 // The places, one behind the other.
 pub type Window = [u8; BYTES];
 
-fn joined(high: u8, low: u8) -> usize
-    ensures { result ≡ num (high ∷ low ∷ []) }
-{
-    (low as usize) + (high as usize) * 256
-}
-
 // The size of what waits at a place, 0 where it is free.
 pub fn size_at(window: &Window, place: usize) -> usize
     requires { place < 256 }
     ensures { result ≡ size_at window.now place }
 {
-    let at = place * PLACE;
-    joined(window[at], window[at + 1])
+    wire::u16_at(window, place * PLACE) as usize
 }
 
 // What waits at a place, of a packet's message's size, is that message, byte for byte.

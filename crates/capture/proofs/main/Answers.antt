@@ -1,10 +1,10 @@
--- `capture::main` is safe and ends: the session is opened by the strict rule.
+-- `capture::main` is safe: the session is opened by the strict rule.
 -- Assumes nothing.
-use Rattle.std.proofs.Common.{rules, refl}
+use Rattle.std.proofs.Common.{rules}
 use Rattle.capture.proofs.Strict.{opened_strictly}
 use Rattle.capture.proofs.main.Goals as goal
 
-pub loop-turns-init : goal.loop-turns-init
-loop-turns-init c =
-    let opened = c.open_strict-session.ensures in
-    (opened_strictly _ opened.opened opened.rule, search rules, search rules, refl)
+pub reads-init : goal.reads-init
+reads-init c =
+    let opened = c.open-owned.ensures in
+    (opened_strictly _ opened.opened opened.rule, search rules, search rules)

@@ -1,56 +1,20 @@
--- `good_symbol` answers as its rule does. The loop's invariant: the first byte is no space, and the first k are printable.
-use mathlib.Core.Path.{◌≡◌, refl, sym, ◌∙◌}
-use mathlib.Core.Bool.{and-false}
-use Prim.Native.Nat.{◌<◌}
-use native.Mathlib.Numerals.{add-one}
-use native.Mathlib.Omega.{arith}
-use borrow.Author.Rules.{rules}
-use borrow.Author.Tests.{eq-eqb, ne_eqb}
-use Rattle.fields.specs.Tests.{first_all}
+-- `good_symbol` answers as its rule does.
+use Rattle.std.proofs.Common.{rules, tests, ◌∙◌, sym, eq-eqb, ne_eqb}
+use mathlib.Core.Bool.{and-false, and-true}
+use Rattle.std.proofs.lemmas.Iterator.{YieldsList-from_slice}
+use Rattle.std.proofs.lemmas.Iterator.Search.{all_from_yields_List}
+use Rattle.fields.specs.Tests.{between}
 use Rattle.fields.specs.Rules.{is_printable, good_symbol}
-use Rattle.fields.proofs.Tests.{all_more, all_fail}
+use Rattle.fields.proofs.Tests.{all_listed}
 use Rattle.fields_rules.proofs.good_symbol.Goals as goal
 
-pub returns-then-symbol-eq32 : goal.returns-then-symbol-eq32
+pub returns-then-symbol-ne32 : goal.returns-then-symbol-ne32
+unfolding good_symbol between
+returns-then-symbol-ne32 c =
+    all_from_yields_List is_printable _ _ _ c.all.ensures.ran (YieldsList-from_slice c.args.symbol c.iter.ensures.rest) (λ x b q k. search (rules, tests))
+    ∙ sym (all_listed is_printable c.args.symbol 14 (search rules))
+    ∙ simp (ne_eqb _ _ c.if-symbol-ne32.true, and-true)
+
+pub returns-else-symbol-ne32 : goal.returns-else-symbol-ne32
 unfolding good_symbol
-returns-then-symbol-eq32 c = simp (eq-eqb _ _ c.if-symbol-eq32.true, and-false)
-
-pub loop-k-init : goal.loop-k-init
-unfolding first_all
-loop-k-init c = (search rules, ne_eqb _ _ c.if-symbol-eq32.false, refl)
-
-pub returns-then-not-within : goal.returns-then-not-within
-unfolding good_symbol
-returns-then-not-within c =
-    let h : c.loop-k.k < 14 = omega arith in
-    simp
-    (all_fail
-    is_printable
-    c.args.symbol
-    c.loop-k.k
-    14
-    h
-    (sym c.within.ensures ∙ c.if-not-within.true))
-
-pub loop-k-smaller : goal.loop-k-smaller
-loop-k-smaller c = omega arith
-
-pub loop-k-preserved : goal.loop-k-preserved
-loop-k-preserved c = (
-  omega arith,
-  c.loop-k.invariant.1,
-  rw
-      add-one
-      (all_more
-      is_printable
-      c.args.symbol
-      c.loop-k.k
-      c.loop-k.invariant.2
-      (sym c.within.ensures ∙ c.if-not-within.false)),
-)
-
-pub returns : goal.returns
-unfolding good_symbol
-returns c =
-    let all : c.loop-k.k ≡ 14 = omega arith in
-    simp (← all, c.loop-k.invariant.1, c.loop-k.invariant.2)
+returns-else-symbol-ne32 c = simp (eq-eqb _ _ c.if-symbol-ne32.false, and-false)

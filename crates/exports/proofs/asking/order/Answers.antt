@@ -5,7 +5,7 @@ use Prim.Native.Nat.{◌<◌}
 use native.Mathlib.Omega.{arith}
 use Rattle.std.specs.Prelude.{Err}
 use Rattle.std.proofs.lemmas.Result.{err_from_is_err_and}
-use Rattle.session.proofs.Answers.{bad_asked, known_asked, none_asked, orders_long, some_book, order_few}
+use Rattle.session.proofs.Answers.{bad_asked, known_asked, none_asked, some_book, order_few}
 use Rattle.exports.proofs.asking.order.Goals as goal
 
 small : (c : goal.In-Some) → c.in-Some.place < 256
@@ -26,7 +26,7 @@ pub offset_bounds-session-place : goal.offset_bounds-session-place
 offset_bounds-session-place c = omega (arith, small c)
 
 pub bounds-session-place : goal.bounds-session-place
-bounds-session-place c = omega (arith, small c, orders_long c.requires.1)
+bounds-session-place c = order_few c.requires.1 _ c.value.ensures c.in_ok-key.was c.found.ensures c.in-Some.is
 
 pub returns : goal.returns
 returns c = known_asked c.requires.1 _ c.value.ensures c.in_ok-key.was c.found.ensures c.in-Some.is

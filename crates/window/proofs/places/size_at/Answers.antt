@@ -5,4 +5,4 @@ use Rattle.window.proofs.places.size_at.Goals as goal
 
 pub returns : goal.returns
 unfolding size_at
-returns c = c.joined.ensures
+returns c = c.u16_at.ensures

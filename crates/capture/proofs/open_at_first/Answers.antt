@@ -1,0 +1,7 @@
+-- `capture::open_at_first` keeps the session's rule, and that it is a strict one.
+-- Assumes nothing.
+use Rattle.capture.proofs.Strict.{opened_strictly}
+use Rattle.capture.proofs.open_at_first.Goals as goal
+
+pub returns : goal.returns
+returns c = opened_strictly _ c.reopen.ensures.opened c.reopen.ensures.rule
