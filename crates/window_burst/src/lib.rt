@@ -10,7 +10,7 @@ ghost use Rattle.window_taking.specs.Turns.{frame_at, from_by, packet_at, turn_o
 use refusals::Refusal;
 use window::places::{NUMBERS, Window};
 use window_admitting::admit;
-use window_taking::admitting::Admitted;
+use window_taking::admitting::{Admitted, Apply};
 use window_taking::burst::{Frame, Turn};
 
 // No more than these can wait.
@@ -99,7 +99,7 @@ fn begin(
         direct: 0,
         from: 0,
     };
-    match admit(window, next, end, &s[start..stop], true) {
+    match admit(window, next, end, &s[start..stop], Apply::Now) {
         Ok(admitted) => Turn {
             end: admitted.end,
             direct: admitted.direct,
