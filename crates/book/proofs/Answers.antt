@@ -1,7 +1,9 @@
 -- The answers to the questions, one law for each way out, over plain values.
 -- Assumes nothing.
 use mathlib.Core.Path.{◌≡◌, refl, ap, ap₂, ◌∙◌, sym, subst}
-use mathlib.Core.Bool.{Bool, true, false, cond, not, ◌&&◌}
+use mathlib.Core.Bool.{Bool, true, false, cond, not, ◌&&◌, and-false}
+use mathlib.Core.Logic.{◌≢◌}
+use borrow.Author.Tests.{eq-eqb, ne_eqb}
 use mathlib.Core.List.{List, [], ◌∷◌}
 use Prim.Native.Nat.{ℕ, zero, suc, ◌+◌, ◌-◌, ◌*◌, ◌≤◌, ◌<◌}
 use native.Mathlib.Nat.{le_refl}
@@ -27,12 +29,6 @@ use Rattle.book.proofs.Holding.{get_places}
 use Rattle.book.proofs.Steps.{front_keys}
 use Rattle.book.proofs.Types.{pick, answer_refused, answer_value}
 use Rattle.book.proofs.Under.{key_below, symbol_below}
-
-get_d_take : (n i : ℕ) (xs : List Order) → i < n → get_or (take n xs) i blank ≡ get_or xs i blank
-get_d_take zero i xs h = absurd (omega arith)
-get_d_take (suc n) i [] h = refl
-get_d_take (suc n) zero (x ∷ xs) h = refl
-get_d_take (suc n) (suc i) (x ∷ xs) h = get_d_take n i xs (omega arith)
 
 module _ (b : Book) (kept : Kept b) where
   -- ---- by order id
@@ -127,77 +123,74 @@ small_more symbol side n o level most small =
     λ f. pick (Small (n + 1)) (better side o.price level.price) (λ e. one)
     λ f. pick (Small (n + 1)) (eqb o.price level.price) (λ e. record { shares = omega arith; orders = omega arith }) (λ e. same)
 
--- of the first n orders, those from k on have the level, and its sums are small
-pub record Going (symbol : List ℕ) (side : ℕ) (orders : List Order) (n k : ℕ) (level : Level) : Type 0 where
-  pub within : k ≤ n
-  pub is : level ≡ best_in symbol side (drop k (take n orders))
-  pub small : Small (n - k) level
+-- the orders from k on have the level, and its sums are small
+pub record Going (symbol : List ℕ) (side : ℕ) (orders : List Order) (k : ℕ) (level : Level) : Type 0 where
+  pub within : k ≤ length orders
+  pub is : level ≡ best_in symbol side (drop k orders)
+  pub small : Small (length orders - k) level
 
-module _ (symbol : List ℕ) (side : ℕ) (orders : List Order) {n : ℕ} (few : n ≤ 256) (long : length orders ≡ 256) where
-  abbrev os : List Order
-  os = take n orders
+pub zero_level : {level : Level} → level.price ≡ 0 → level.shares ≡ 0 → level.orders ≡ 0 → level ≡ no_level
+zero_level p q r = λ i. record { price = p i; shares = q i; orders = r i }
 
-  os_long : length os ≡ n
-  os_long = length-take-le n orders (omega arith)
-
-  pub best_start : {level : Level} → level ≡ no_level → Going symbol side orders n n level
+module _ (symbol : List ℕ) (side : ℕ) (orders : List Order) where
+  pub best_start : {level : Level} → level ≡ no_level → Going symbol side orders (length orders) level
   unfolding best_in
   best_start e =
       record {
-        within = le_refl n;
-        is = e ∙ sym (ap (λ (m : ℕ). best_in symbol side (drop m os)) (sym os_long) ∙ ap (best_in symbol side) (drop-length os));
+        within = le_refl (length orders);
+        is = e ∙ sym (ap (best_in symbol side) (drop-length orders));
         small = record { shares = omega (arith, ap (λ (l : Level). l.shares) e); orders = omega (arith, ap (λ (l : Level). l.orders) e) };
       }
 
-  module _ {k : ℕ} {level : Level} (g : Going symbol side orders n k level) where
-    pub best_room : 0 < k → Room level
-    best_room some =
-        let few₂ : n - k ≤ 255 = omega (arith, g.within) in
+  module _ {k : ℕ} {level : Level} (g : Going symbol side orders k level) where
+    pub best_room : length orders ≤ 256 → 0 < k → Room level
+    best_room few some =
+        let few₂ : length orders - k ≤ 255 = omega (arith, g.within) in
         record { shares = omega (arith, g.small.shares); orders = omega (arith, g.small.orders) }
 
     -- one order before
-    pub best_step : {r : Level} → 0 < k → Joins symbol side (get_or orders (k - 1) blank) level r → Going symbol side orders n (k - 1) r
+    pub best_step : {r : Level} → 0 < k → Joins symbol side (get_or orders (k - 1) blank) level r → Going symbol side orders (k - 1) r
     unfolding best_in
     best_step {r} some joins =
-        let small : k - 1 < n = omega (arith, g.within) in
-        let inside : k - 1 < length os = omega (arith, os_long) in
+        let inside : k - 1 < length orders = omega (arith, g.within) in
         let next : suc (k - 1) ≡ k = omega arith in
-        let more : n - k + 1 ≡ n - (k - 1) = omega (arith, g.within) in
+        let more : length orders - k + 1 ≡ length orders - (k - 1) = omega (arith, g.within) in
         record {
           within = omega arith;
           is =
               joins.same
-              ∙ ap₂ (joined symbol side) (sym (get_d_take n (k - 1) orders small)) g.is
-              ∙ sym (ap (best_in symbol side) (drop-cons os (k - 1) blank inside ∙ ap (λ (j : ℕ). get_or os (k - 1) blank ∷ drop j os) next));
+              ∙ ap (joined symbol side (get_or orders (k - 1) blank)) g.is
+              ∙ sym (ap (best_in symbol side) (drop-cons orders (k - 1) blank inside ∙ ap (λ (j : ℕ). get_or orders (k - 1) blank ∷ drop j orders) next));
           small =
               subst (λ (m : ℕ). Small m r) more
-              (subst (Small (n - k + 1)) (sym joins.same)
-              (small_more symbol side (n - k) (get_or orders (k - 1) blank) level joins.most g.small));
+              (subst (Small (length orders - k + 1)) (sym joins.same)
+              (small_more symbol side (length orders - k) (get_or orders (k - 1) blank) level joins.most g.small));
         }
 
-    pub best_all : k ≡ 0 → level ≡ best_in symbol side os
-    best_all e = g.is ∙ ap (λ (j : ℕ). best_in symbol side (drop j os)) e
+    pub best_all : k ≡ 0 → level ≡ best_in symbol side orders
+    best_all e = g.is ∙ ap (λ (j : ℕ). best_in symbol side (drop j orders)) e
 
--- the reply by the level of all that is due: for a bad question the level does not count
-same_reply : (good : Bool) (symbol : List ℕ) (side : ℕ) (orders : List Order) (live : ℕ) {n : ℕ} {level : Level}
-    → n ≡ cond good live 0
-    → level ≡ best_in symbol side (take n orders)
-    → reply_with good level ≡ reply_with good (best_in symbol side (take live orders))
-unfolding reply_with
-same_reply true symbol side orders live due all = ap (reply_with true) (all ∙ ap (λ (m : ℕ). best_in symbol side (take m orders)) due)
-same_reply false symbol side orders live due all = refl
+-- the answer by whether the question is good, and by the level of all orders
+module _ (symbol : List ℕ) (side : ℕ) (orders : List Order) where
+  bad : (good_symbol symbol && good_side side) ≡ false → Err BadQuestion ≡ best_for orders symbol side
+  unfolding best_for reply_with
+  bad g = simp g
 
-pub best_reply : (symbol : List ℕ) (side : ℕ) (orders : List Order) (live : ℕ) {good : Bool} {n : ℕ} {level : Level} {r : Result Level Refusal}
-    → good ≡ (good_symbol symbol && good_side side)
-    → n ≡ cond good live 0
-    → level ≡ best_in symbol side (take n orders)
-    → r ≡ reply_with good level
-    → r ≡ best_for (take live orders) symbol side
-unfolding best_for
-best_reply symbol side orders live {good} is due all e =
-    e ∙ same_reply good symbol side orders live due all ∙ ap (λ (b : Bool). reply_with b (best_in symbol side (take live orders))) is
+  pub bad_symbol : good_symbol symbol ≡ false → Err BadQuestion ≡ best_for orders symbol side
+  bad_symbol g = bad (ap (λ (b : Bool). b && good_side side) g)
 
--- no more are due than are live
-pub due_few : (good : Bool) {n live : ℕ} → n ≡ cond good live 0 → live ≤ 256 → n ≤ 256
-due_few true e few = omega (arith, e)
-due_few false e few = omega (arith, e)
+  pub bad_side : good_side side ≡ false → Err BadQuestion ≡ best_for orders symbol side
+  bad_side g = bad (ap (λ (b : Bool). good_symbol symbol && b) g ∙ and-false (good_symbol symbol))
+
+  module _ (s : good_symbol symbol ≡ true) (g : good_side side ≡ true) {level : Level} (all : level ≡ best_in symbol side orders) where
+    answered : best_for orders symbol side ≡ reply_with true level
+    unfolding best_for
+    answered = ap₂ (λ (a b : Bool). reply_with (a && b) (best_in symbol side orders)) s g ∙ ap (reply_with true) (sym all)
+
+    pub no_best : level.orders ≡ 0 → Err NotThere ≡ best_for orders symbol side
+    unfolding reply_with
+    no_best e = rw answered (simp (eq-eqb _ _ e))
+
+    pub the_best : level.orders ≢ 0 → Ok level ≡ best_for orders symbol side
+    unfolding reply_with
+    the_best n = rw answered (simp (ne_eqb _ _ n))

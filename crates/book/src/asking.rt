@@ -1,30 +1,19 @@
 // The best of a table: the price, the shares and the orders of a symbol and side.
-ghost use Rattle.std.specs.Prelude.{◌≡◌, cond, ◌&&◌, List, ℕ, ◌≤◌, length, take};
-ghost use Rattle.fields.specs.Rules.{good_symbol, good_side};
+ghost use Rattle.std.specs.Prelude.{◌≡◌, List, ℕ, ◌≤◌, length};
 ghost use Rattle.book.specs.Lookup.{Apart};
-ghost use Rattle.book.specs.Asking.{best_for, better as betterOf, Joins, is_of, no_level, reply_with, Room};
+ghost use Rattle.book.specs.Asking.{best_for, better as betterOf, Joins, is_of, Room};
 
-use crate::lookup::{Parts, parts_of};
-use crate::tables::{ORDERS, Order};
+use crate::lookup::Parts;
+use crate::tables::Order;
 use fields_rules::{good_side, good_symbol};
 use refusals::Refusal;
 
 // A price, the sum of shares there and the number of orders.
-#[derive(Clone, Copy)]
+#[derive(Clone, Copy, Default)]
 pub struct Level {
     pub price: u64,
     pub shares: u64,
     pub orders: u64,
-}
-
-pub fn no_level() -> Level
-    ensures { result ≡ no_level }
-{
-    Level {
-        price: 0,
-        shares: 0,
-        orders: 0,
-    }
 }
 
 // Highest bid, lowest ask.
@@ -42,15 +31,11 @@ fn better(side: u8, price: u64, other: u64) -> bool
 fn belongs(parts: Parts, side: u8, order: Order) -> bool
     ensures { (symbol : List ℕ) → Apart symbol parts → result ≡ is_of symbol side order }
 {
-    if order.side != side {
-        return false;
-    }
-    let listed = order.symbol;
-    parts_of(listed) == parts
+    order.side == side && Parts::from(order.symbol) == parts
 }
 
 // One order more: the level it makes alone, the level with it, or the level as it was.
-pub fn join(parts: Parts, side: u8, order: Order, level: Level) -> Level
+fn join(parts: Parts, side: u8, order: Order, level: Level) -> Level
     requires { Room level }
     ensures { (symbol : List ℕ) → Apart symbol parts → Joins symbol side order level result }
 {
@@ -78,53 +63,21 @@ pub fn join(parts: Parts, side: u8, order: Order, level: Level) -> Level
     level
 }
 
-pub fn good_question(symbol: [u8; 14], side: u8) -> bool
-    ensures { result ≡ (good_symbol symbol && good_side side) }
+// Refused where the symbol or the side breaks its rule, or where no such order is live.
+pub fn best(orders: &[Order], symbol: [u8; 14], side: u8) -> Result<Level, Refusal>
+    requires { length orders.now ≤ 256 }
+    ensures { result ≡ best_for orders.now symbol side }
 {
-    if good_symbol(symbol) {
-        good_side(side)
-    } else {
-        false
-    }
-}
-
-// How many orders are looked at: none for a bad question.
-pub fn due(good: bool, live: usize) -> usize
-    ensures { result ≡ cond good live 0 }
-{
-    if good { live } else { 0 }
-}
-
-// By the level of all live orders: refused where a rule is broken, or where there is none.
-pub fn reply_with(good: bool, level: Level) -> Result<Level, Refusal>
-    ensures { result ≡ reply_with good level }
-{
-    if !good {
+    if !good_symbol(symbol) || !good_side(side) {
         return Err(Refusal::BadQuestion);
+    }
+    let parts = Parts::from(symbol);
+    let mut level = Level::default();
+    for k in (0..orders.len()).rev() {
+        level = join(parts, side, orders[k], level);
     }
     if level.orders == 0 {
         return Err(Refusal::NotThere);
     }
     Ok(level)
-}
-
-pub fn best(
-    orders: [Order; ORDERS],
-    live: usize,
-    symbol: [u8; 14],
-    side: u8,
-) -> Result<Level, Refusal>
-    requires { (live ≤ 256) × (length orders ≡ 256) }
-    ensures { result ≡ best_for (take live orders) symbol side }
-{
-    let good = good_question(symbol, side);
-    let parts = parts_of(symbol);
-    let mut level = no_level();
-    let mut k = due(good, live);
-    while 0 < k {
-        k -= 1;
-        let order = orders[k];
-        level = join(parts, side, order, level);
-    }
-    reply_with(good, level)
 }

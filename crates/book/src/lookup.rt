@@ -1,13 +1,6 @@
-// Parts: what a look-up found, and a symbol as numbers.
-ghost use Rattle.std.specs.Prelude.{◌≡◌, ◌≤◌, length};
-ghost use Rattle.book.specs.Lookup.{front_of, back_of, place_found, Apart};
-
-// The place that a look-up found, or the first where it found none.
-pub fn place_found(found: Option<usize>) -> usize
-    ensures { result ≡ place_found found }
-{
-    found.unwrap_or(0)
-}
+// Parts: a symbol as numbers.
+ghost use Rattle.std.specs.Prelude.{◌≡◌};
+ghost use Rattle.book.specs.Lookup.{front_of, back_of, Apart};
 
 // A symbol's first eight bytes, and its last eight.
 pub fn front(symbol: [u8; 14]) -> u64
@@ -30,19 +23,14 @@ pub struct Parts {
     pub last: u16,
 }
 
-fn parts_in(symbol: &[u8]) -> Parts
-    requires { 14 ≤ length symbol.now }
-    ensures { Apart symbol.now result }
-{
-    Parts {
-        first: wire::u64_at(symbol, 0),
-        middle: wire::u32_at(symbol, 8),
-        last: wire::u16_at(symbol, 12),
-    }
-}
+impl From<[u8; 14]> for Parts {
+    ghost from_gives = { Apart };
 
-pub fn parts_of(symbol: [u8; 14]) -> Parts
-    ensures { Apart symbol result }
-{
-    parts_in(&symbol)
+    fn from(symbol: [u8; 14]) -> Self {
+        Parts {
+            first: wire::u64_at(&symbol, 0),
+            middle: wire::u32_at(&symbol, 8),
+            last: wire::u16_at(&symbol, 12),
+        }
+    }
 }

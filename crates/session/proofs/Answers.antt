@@ -5,6 +5,7 @@ use mathlib.Core.List.{List}
 use Prim.Native.Nat.{ℕ, ◌≤◌, ◌<◌}
 use native.Mathlib.Omega.{arith}
 use lib.ListN.{length, get_or, take}
+use lib.Seq.{length-take-le}
 use Rattle.std.specs.Prelude.{Option, Some, None, Result, Ok, Err}
 use Rattle.refusals.specs.declared.Refusal.{Refusal}
 use Rattle.refusals.specs.declared.Refusal.TheVariants.{NotThere}
@@ -44,6 +45,10 @@ module _ {s : Held} (rule : Ruled s) where
 
   pub live_few : live_in s.room ≤ 256
   live_few = omega (arith, live_at (filled lies), lies.kept.live)
+
+  -- the live orders, lent as a slice
+  pub orders_few : length (take (live_in s.room) s.session.orders) ≤ 256
+  orders_few = rw (length-take-le (live_in s.room) s.session.orders (omega (arith, live_few, orders_long))) live_few
 
   -- what is lent has its size
   pub sized : Sized s.room s.window

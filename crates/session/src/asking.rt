@@ -99,9 +99,8 @@ pub fn best(session: Session, room: &Room, symbol: [u8; 14], side: u8) -> Result
     requires { (window : List ℕ) × Ruled (held session room.now window) }
     ensures { result ≡ best_asked (tables_in session room.now) symbol side }
 {
-    let orders = session.orders;
     let live = room[LIVE] as usize;
-    book::asking::best(orders, live, symbol, side)
+    book::asking::best(&session.orders[..live], symbol, side)
 }
 
 // A symbol's bytes by its two numbers.

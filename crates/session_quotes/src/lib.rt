@@ -2,14 +2,12 @@
 // one that is looked at.
 #![tactic(auto)]
 
-ghost use Rattle.std.specs.Prelude.{◌≡◌, List, ℕ, ◌≤◌, length, take};
+ghost use Rattle.std.specs.Prelude.{◌≡◌, List, ℕ, length};
 ghost use Rattle.refusals.specs.Refusals.{refusal_in};
-ghost use Rattle.book.specs.Asking.{best_for};
 ghost use Rattle.session.specs.Meaning.{held, tables_in, Ruled};
 ghost use Rattle.session.specs.Quoting.{numbers_of, quoted_of, quotes_after};
 
-use book::asking::{Level, good_question, join, no_level, reply_with};
-use book::lookup::parts_of;
+use book::asking::{Level, best};
 use book_room::room::{LIVE, Room};
 use refusals::Refusal;
 use session::state::Session;
@@ -18,26 +16,6 @@ use session::state::Session;
 const QUESTION: usize = 15;
 
 const REPLY: usize = 4;
-
-// The best of the live orders of a symbol and a side, from the last order to the first.
-fn best(
-    session: &Session,
-    live: usize,
-    symbol: [u8; 14],
-    side: u8,
-) -> Result<Level, Refusal>
-    requires live { live ≤ 256 }
-    requires orders { length session.now.orders ≡ 256 }
-    ensures { result ≡ best_for (take live session.now.orders) symbol side }
-{
-    let good = good_question(symbol, side);
-    let parts = parts_of(symbol);
-    let mut level = no_level();
-    for k in (0..live).rev() {
-        level = join(parts, side, session.orders[k], level);
-    }
-    reply_with(good, level)
-}
 
 fn numbers(best: Result<Level, Refusal>) -> [u64; REPLY]
     ensures { result ≡ numbers_of best }
@@ -64,11 +42,11 @@ pub fn quotes(
     if replies.len() < REPLY * count {
         return Err(Refusal::NoRoom);
     }
-    let live = room[LIVE] as usize;
+    let orders = &session.orders[..room[LIVE] as usize];
     for k in 0..count {
         let at = QUESTION * k;
         let symbol = wire::text_at::<14>(asked, at);
-        let answer = best(session, live, symbol, asked[at + 14]);
+        let answer = best(orders, symbol, asked[at + 14]);
         let place = REPLY * k;
         replies[place..place + REPLY].copy_from_slice(&numbers(answer));
     }

@@ -4,7 +4,7 @@ use Rattle.std.proofs.Common.{ℕ, ◌+◌, ◌*◌, List, length, take, get_or,
 use Rattle.book.specs.Asking.{best_for}
 use Rattle.session.specs.Meaning.{live_in}
 use Rattle.session.specs.Quoting.{numbers_of}
-use Rattle.session.proofs.Answers.{live_few, orders_long}
+use Rattle.session.proofs.Answers.{live_few, orders_few}
 use Rattle.session_quotes.proofs.Quests.{quoted_all, quoted_short, quotes_short, standing_end, standing_put, standing_start}
 use Rattle.session_quotes.proofs.quotes.Goals as goal
 
@@ -18,7 +18,10 @@ pub loop-k-init : goal.loop-k-init
 loop-k-init c = standing_start _ _ _
 
 pub best-answer-requires : goal.best-answer-requires
-best-answer-requires c = record { live = live_few c.requires.1; orders = orders_long c.requires.1 }
+best-answer-requires c = orders_few c.requires.1
+
+pub shared_ref_as_front-orders : goal.shared_ref_as_front-orders
+shared_ref_as_front-orders c = live_few c.requires.1
 
 pub loop-k-preserved : goal.loop-k-preserved
 loop-k-preserved c =

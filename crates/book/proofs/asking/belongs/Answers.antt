@@ -22,8 +22,8 @@ module _ (o : Order) (symbol : List ℕ) (side : ℕ) where
   this-side e same = simp (eq-eqb _ _ e, and-true) same
 
 pub returns-then-order-side : goal.returns-then-order-side
-returns-then-order-side c symbol p = other-side _ _ _ c.if-order-side.true
-
-pub returns : goal.returns
 unfolding same_parts
-returns c symbol p = this-side _ _ _ c.if-order-side.false (c.eq.ensures ∙ same_apart _ _ c.parts_of.ensures p)
+returns-then-order-side c symbol p = this-side _ _ _ c.if-order-side.true (c.eq.ensures ∙ same_apart _ _ c.from.ensures p)
+
+pub returns-else-order-side : goal.returns-else-order-side
+returns-else-order-side c symbol p = ne_eqb _ _ c.if-order-side.false ∙ other-side _ _ _ c.if-order-side.false

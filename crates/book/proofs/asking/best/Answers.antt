@@ -1,36 +1,33 @@
 -- `best` goes from the last order to the first: the level is that of the orders behind.
 -- Assumes nothing.
-use Prim.Native.Nat.{◌≤◌}
+use mathlib.Core.Path.{◌∙◌, sym}
 use native.Mathlib.Omega.{arith}
-use Rattle.book.proofs.Answers.{best_all, best_reply, best_room, best_start, best_step, due_few}
+use Rattle.book.proofs.Answers.{bad_side, bad_symbol, best_all, best_room, best_start, best_step, no_best, the_best, zero_level}
+use Rattle.book.proofs.asking.best.Goals.{then-not-good_symbol-via-then-not-good_symbol, then-not-good_symbol-via-else-not-good_symbol+then-not-good_side}
 use Rattle.book.proofs.asking.best.Goals as goal
 
-within : (c : goal.In-loop-k) → c.loop-k.k ≤ 256
-within c = omega (arith, (c.loop-k.invariant _ c.parts_of-parts.ensures).within, due_few c.good_question-good.result c.due-k.ensures c.requires.0)
-
 pub loop-k-init : goal.loop-k-init
-loop-k-init c symbol p = best_start symbol _ _ (due_few c.good_question-good.result c.due-k.ensures c.requires.0) c.requires.1 c.no_level-level.ensures
+loop-k-init c = let zero = c.default-level.ensures in best_start _ _ _ (zero_level zero.0 zero.1.0 zero.1.1)
+
+pub join-level-requires : goal.join-level-requires
+join-level-requires c = best_room _ _ _ c.loop-k.invariant c.requires c.loop-k-test.true
 
 pub loop-k-preserved : goal.loop-k-preserved
-loop-k-preserved c symbol p =
-    best_step symbol _ _ (due_few c.good_question-good.result c.due-k.ensures c.requires.0) c.requires.1 (c.loop-k.invariant symbol p) c.loop-k-test.true (c.join-level.ensures symbol p)
+loop-k-preserved c = best_step _ _ _ c.loop-k.invariant c.loop-k-test.true (c.join-level.ensures _ c.from-parts.ensures)
+
+pub returns-then-not-good_symbol : goal.returns-then-not-good_symbol
+returns-then-not-good_symbol c =
+    elim c.then-not-good_symbol.branch [
+      | then-not-good_symbol-via-then-not-good_symbol w ↦ bad_symbol _ _ _ (sym c.good_symbol.ensures ∙ w.if-not-good_symbol.true)
+      | then-not-good_symbol-via-else-not-good_symbol+then-not-good_side w ↦ bad_side _ _ _ (sym w.good_side.ensures ∙ w.if-not-good_side.true)
+    ]
+
+pub returns-then-level-eq0 : goal.returns-then-level-eq0
+returns-then-level-eq0 c =
+    no_best _ _ _ (sym c.good_symbol.ensures ∙ c.if-not-good_symbol.false) (sym c.good_side.ensures ∙ c.if-not-good_side.false)
+    (best_all _ _ _ c.loop-k.invariant (omega (arith, c.loop-k-test.false))) c.if-level-eq0.true
 
 pub returns : goal.returns
 returns c =
-    let all = best_all _ _ _ (due_few c.good_question-good.result c.due-k.ensures c.requires.0) c.requires.1 (c.loop-k.invariant _ c.parts_of-parts.ensures) (omega (arith, c.loop-k-test.false)) in
-    best_reply _ _ _ _ c.good_question-good.ensures c.due-k.ensures all c.reply_with.ensures
-
-pub overflow_sub-k : goal.overflow_sub-k
-overflow_sub-k c = omega arith
-
-pub offset_bounds-orders-k : goal.offset_bounds-orders-k
-offset_bounds-orders-k c = omega (arith, within c)
-
-pub bounds-orders-k : goal.bounds-orders-k
-bounds-orders-k c = omega (arith, within c, c.requires.1)
-
-pub join-level-requires : goal.join-level-requires
-join-level-requires c = best_room _ _ _ (due_few c.good_question-good.result c.due-k.ensures c.requires.0) c.requires.1 (c.loop-k.invariant _ c.parts_of-parts.ensures) c.loop-k-test.true
-
-pub loop-k-smaller : goal.loop-k-smaller
-loop-k-smaller c = omega arith
+    the_best _ _ _ (sym c.good_symbol.ensures ∙ c.if-not-good_symbol.false) (sym c.good_side.ensures ∙ c.if-not-good_side.false)
+    (best_all _ _ _ c.loop-k.invariant (omega (arith, c.loop-k-test.false))) c.if-level-eq0.false

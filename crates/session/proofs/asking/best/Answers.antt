@@ -1,10 +1,13 @@
--- Handed on, with the order table.
+-- Handed on, with the live orders.
 -- Assumes nothing.
-use Rattle.session.proofs.Answers.{live_few, orders_long}
+use Rattle.session.proofs.Answers.{live_few, orders_few}
 use Rattle.session.proofs.asking.best.Goals as goal
 
+pub shared_ref_as_front-best : goal.shared_ref_as_front-best
+shared_ref_as_front-best c = live_few c.requires.1
+
 pub best-requires : goal.best-requires
-best-requires c = (live_few c.requires.1, orders_long c.requires.1)
+best-requires c = orders_few c.requires.1
 
 pub returns : goal.returns
 returns c = c.best.ensures
