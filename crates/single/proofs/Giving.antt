@@ -8,7 +8,7 @@ use native.Mathlib.Omega.{arith}
 use borrow.Author.Tests.{eqb-true, leb-false, le-leb, lt-leb, ne_eqb}
 use lib.Dec.{eqb, leb}
 use lib.ListN.{drop, get_or, length, length-append, replicate, take}
-use Rattle.wire.specs.Layout.{Field, number, text, Value, decode, encode, Fits, Holds}
+use Rattle.wire.specs.Layout.{Field, number, text, decode, encode, Fits, Holds}
 use Rattle.wire.specs.Number.{be, splice, Bytes}
 use Rattle.std.proofs.Common.{Ok, Err}
 use Rattle.refusals.specs.declared.Refusal.{Refusal}

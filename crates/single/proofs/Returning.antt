@@ -8,7 +8,7 @@ use native.Mathlib.Omega.{arith}
 use borrow.Author.Tests.{lt-leb}
 use lib.Dec.{leb}
 use lib.ListN.{get_or, length, length-append}
-use Rattle.wire.specs.Layout.{Field, Value, decode, encode, width_of, Fits}
+use Rattle.wire.specs.Layout.{Field, decode, encode, width_of}
 use Rattle.wire.specs.Number.{be, num, part, Bytes}
 use Rattle.wire.proofs.Digits.{num_small}
 use Rattle.wire.proofs.Layouts.{decode-encode, decode_fits, encode-decode}
@@ -21,7 +21,7 @@ use Rattle.message.specs.declared.kinds.Message.{Message}
 use Rattle.message.proofs.Cases.{by_type}
 use Rattle.message.proofs.Readings.{taken, Taken}
 use Rattle.single.specs.Given.{bytes_from, message_given, row_from, too_wide, wide_from}
-use Rattle.single.specs.Words.{message_numbers, total, widths_by, widths_of, words_at, words_of}
+use Rattle.single.specs.Words.{message_numbers, total, widths_of, words_at}
 use Rattle.single.proofs.Giving.{encode-is, row_fits}
 use Rattle.single.proofs.Laying.{laid, layout-none, numbers_are, widths_are}
 

@@ -1,13 +1,12 @@
 -- A packet walked: by what decides its refusal, and one message after the other.
 -- Assumes nothing.
 use mathlib.Core.Path.{◌≡◌, refl, ap, ◌∙◌, sym, subst}
-use mathlib.Core.Bool.{Bool, true, false, cond}
+use mathlib.Core.Bool.{Bool, true, false}
 use mathlib.Core.List.{List, [], ◌∷◌}
-use mathlib.Core.Logic.{◌⊎◌, inl, inr}
+use mathlib.Core.Logic.{inl, inr}
 use Prim.Native.Nat.{ℕ, zero, suc, ◌+◌, ◌-◌, ◌*◌, ◌≤◌, ◌<◌}
 use native.Mathlib.Omega.{arith}
 use borrow.Author.Tests.{eq-eqb, ne_eqb, lt-ltb, le-ltb}
-use lib.Dec.{eqb}
 use lib.ListN.{length, set}
 use Rattle.std.proofs.Common.{Ok, Err, Some, None}
 use Rattle.refusals.specs.Refusals.{number_of}
@@ -16,7 +15,7 @@ use Rattle.packet.specs.Walk.{broken_at, frames_from, size_at, walk_from}
 use Rattle.packet.specs.declared.header.Rejection.{Rejection}
 use Rattle.packet.proofs.Walking.{Lies, lies}
 use Rattle.packet_reader.specs.Reading.{judged_by, messages_of, refusal_of}
-use Rattle.packet.proofs.Headers.{Passed, no_number}
+use Rattle.packet.proofs.Headers.{no_number}
 use Rattle.packet_reader.proofs.Refusals.{accepted as passed, either, judged-number}
 use Rattle.single.specs.Over.{over, over_from}
 use Rattle.single.specs.Walks.{flat, places_after, walk_numbers, walk_refusal, Walkable}
