@@ -22,15 +22,7 @@ pub fn add(bytes: &[u8], key: u64, order: Option<usize>, live: usize) -> Effect
     ensures { (seen : Seen) → seen.order ≡ order → seen.live ≡ live → result ≡ effect_of seen (fields_of 21 bytes.now) }
 {
     let fields = message_layouts::add(bytes);
-    let symbol = fields.deal.symbol;
-    let broken = message_rules::add(
-        is_value(key),
-        fields.deal.side,
-        fields.deal.quantity,
-        symbol,
-        fields.deal.price,
-        fields.unsolicited,
-    );
+    let broken = message_rules::add(is_value(key), &fields.deal, fields.unsolicited);
     added(broken == 0, order, live)
 }
 
@@ -126,13 +118,7 @@ fn trade(bytes: &[u8]) -> Effect
     ensures { (seen : Seen) → result ≡ effect_of seen (fields_of 27 bytes.now) }
 {
     let fields = message_layouts::trade(bytes);
-    let symbol = fields.deal.symbol;
-    let broken = message_rules::trade(
-        fields.deal.side,
-        fields.deal.quantity,
-        symbol,
-        fields.deal.price,
-    );
+    let broken = message_rules::trade(&fields.deal);
     kept(broken == 0, Effect::Unchanged)
 }
 

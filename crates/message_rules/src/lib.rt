@@ -13,6 +13,7 @@ use fields_rules::{
     good_inside_price, good_price, good_quantity, good_session, good_side, good_symbol,
     good_trade_side, good_unsolicited,
 };
+use message::layouts::Deal;
 use message::{Body, Message, Terms};
 
 // Where the field at `at` keeps its rule, what the fields behind it answer.
@@ -30,28 +31,21 @@ pub fn trading_session(session: u8) -> u8
 
 // What an Order Add offers and a Trade exchanged, from the quantity on, which stands at `at`: of the side
 // before it each has a rule of its own.
-fn deal(at: u8, quantity: u32, symbol: [u8; 14], price: u64, behind: u8) -> u8
+fn dealt(at: u8, deal: &Deal, behind: u8) -> u8
     requires { at + 18 < 256 }
-    ensures { result ≡ broken_or (good_quantity quantity) at (broken_or (good_symbol symbol) (at + 4) (broken_or (good_price price) (at + 18) behind)) }
+    ensures { result ≡ broken_or (good_quantity deal.now.quantity) at (broken_or (good_symbol deal.now.symbol) (at + 4) (broken_or (good_price deal.now.price) (at + 18) behind)) }
 {
-    let priced = broken_or(good_price(price), at + 18, behind);
-    let about = broken_or(good_symbol(symbol), at + 4, priced);
-    broken_or(good_quantity(quantity), at, about)
+    let priced = broken_or(good_price(deal.price), at + 18, behind);
+    let about = broken_or(good_symbol(deal.symbol), at + 4, priced);
+    broken_or(good_quantity(deal.quantity), at, about)
 }
 
-pub fn add(
-    named: bool,
-    side: u8,
-    quantity: u32,
-    symbol: [u8; 14],
-    price: u64,
-    unsolicited: u8,
-) -> u8
-    ensures { result ≡ broken_by 21 (named ∷ good_side side ∷ good_quantity quantity ∷ good_symbol symbol ∷ good_price price ∷ good_unsolicited unsolicited ∷ []) }
+pub fn add(named: bool, deal: &Deal, unsolicited: u8) -> u8
+    ensures { result ≡ broken_by 21 (named ∷ good_side deal.now.side ∷ good_quantity deal.now.quantity ∷ good_symbol deal.now.symbol ∷ good_price deal.now.price ∷ good_unsolicited unsolicited ∷ []) }
 {
     let told = broken_or(good_unsolicited(unsolicited), 52, 0);
-    let dealt = deal(22, quantity, symbol, price, told);
-    let sided = broken_or(good_side(side), 21, dealt);
+    let behind = dealt(22, deal, told);
+    let sided = broken_or(good_side(deal.side), 21, behind);
     broken_or(named, 7, sided)
 }
 
@@ -93,11 +87,11 @@ pub fn top(symbol: [u8; 14], ask: u64, bid: u64, unsolicited: u8) -> u8
     broken_or(good_symbol(symbol), 7, asked)
 }
 
-pub fn trade(side: u8, quantity: u32, symbol: [u8; 14], price: u64) -> u8
-    ensures { result ≡ broken_by 27 (good_trade_side side ∷ good_quantity quantity ∷ good_symbol symbol ∷ good_price price ∷ []) }
+pub fn trade(deal: &Deal) -> u8
+    ensures { result ≡ broken_by 27 (good_trade_side deal.now.side ∷ good_quantity deal.now.quantity ∷ good_symbol deal.now.symbol ∷ good_price deal.now.price ∷ []) }
 {
-    let dealt = deal(8, quantity, symbol, price, 0);
-    broken_or(good_trade_side(side), 7, dealt)
+    let behind = dealt(8, deal, 0);
+    broken_or(good_trade_side(deal.side), 7, behind)
 }
 
 // An execution, at the published price or at its own.
@@ -127,7 +121,15 @@ pub fn broken(message: Message) -> u8
             price,
             unsolicited,
             ..
-        } => add(good_id(id), side, quantity, symbol, price, unsolicited),
+        } => {
+            let deal = Deal {
+                side,
+                quantity,
+                symbol,
+                price,
+            };
+            add(good_id(id), &deal, unsolicited)
+        }
         Body::Update {
             quantity,
             price,
@@ -150,7 +152,15 @@ pub fn broken(message: Message) -> u8
             quantity,
             price,
             ..
-        } => trade(side, quantity, symbol, price),
+        } => {
+            let deal = Deal {
+                side,
+                quantity,
+                symbol,
+                price,
+            };
+            trade(&deal)
+        }
         Body::Other(_) => 0,
     }
 }

@@ -1,6 +1,6 @@
 -- Document 01, "Packet header, 12 bytes", and the tests 1 to 6 of "Taking a packet".
 -- Assumes nothing.
-use Rattle.std.specs.Prelude.{Bool, cond, not, ◌&&◌, List, [], ◌∷◌, ℕ, ◌/◌, ◌%◌, eqb, ltb, length, Result, Ok, Err}
+use Rattle.std.specs.Prelude.{Bool, not, ◌&&◌, List, [], ◌∷◌, ℕ, ◌/◌, ◌%◌, eqb, ltb, length, Result, Ok, Err}
 use Rattle.wire.specs.Choice.{first_of}
 use Rattle.wire.specs.Layout.{Field, number, Value, decode, number_in}
 use Rattle.packet.specs.declared.header.Header.{Header}

@@ -12,17 +12,16 @@ ghost use Rattle.records.specs.Records.{marked_at, opening_of, unmarked_at, Size
 pub const HEAD: usize = 4;
 
 // The mark is there.
+#[tactic(auto, unfolding(crate::specs::Records::marked_at))]
 pub fn marked(held: &[u8], at: usize) -> bool
     requires { at + 2 ≤ length held.now }
     ensures { result ≡ marked_at held.now at }
 {
-    if held[at] == 0xA5 {
-        return held[at + 1] == 0x5A;
-    }
-    false
+    held[at] == 0xA5 && held[at + 1] == 0x5A
 }
 
 // How many bytes the whole record at a place has, its head counted.
+#[tactic(auto, unfolding(crate::specs::Records::size_at))]
 pub fn size_at(held: &[u8], at: usize) -> Option<usize>
     requires { at ≤ length held.now }
     ensures { Sized held.now at result }
@@ -34,7 +33,7 @@ pub fn size_at(held: &[u8], at: usize) -> Option<usize>
     if !marked(held, at) {
         return None;
     }
-    let size = wire::u16_at(held, at + 2) as usize;
+    let size = wire::number_at::<u16>(held, at + 2) as usize;
     if left - HEAD < size {
         return None;
     }
@@ -42,22 +41,21 @@ pub fn size_at(held: &[u8], at: usize) -> Option<usize>
 }
 
 // A record's head is there, and has no mark: nothing behind it is read.
+#[tactic(auto, unfolding(crate::specs::Records::unmarked_at))]
 pub fn unmarked(held: &[u8], at: usize) -> bool
     requires { at ≤ length held.now }
     ensures { result ≡ unmarked_at held.now at }
 {
-    if held.len() - at < HEAD {
-        return false;
-    }
-    !marked(held, at)
+    HEAD <= held.len() - at && !marked(held, at)
 }
 
 // The SeqNum of a packet; 0 where it is under 12 bytes.
+#[tactic(auto, unfolding(crate::specs::Records::opening_of))]
 pub fn number_of(packet: &[u8]) -> u32
     ensures { result ≡ opening_of packet.now }
 {
     if packet.len() < 12 {
         return 0;
     }
-    wire::u32_at(packet, 2)
+    wire::number_at(packet, 2)
 }

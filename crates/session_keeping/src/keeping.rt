@@ -13,6 +13,7 @@ use refusals::Refusal;
 use session::packets::{count_of, due_of};
 use window::places::Window;
 use window_admitting::admit;
+use window_taking::admitting::Apply;
 use window_keeping::keep_packets;
 
 #[derive(Clone, Copy)]
@@ -30,7 +31,7 @@ pub fn keep(room: &mut Room, window: &mut Window, packet: &[u8]) -> Result<u64, 
     ensures held { (session : Session) → Ruled (held session room.old window.old) → held session room.new window.new ≡ rep (keep_one overnight (view (held session room.old window.old)) packet.now) }
     ensures rule { (session : Session) → Ruled (held session room.old window.old) → Ruled (held session room.new window.new) }
 {
-    let admitted = admit(window, room[NEXT], room[END], packet, false)?;
+    let admitted = admit(window, room[NEXT], room[END], packet, Apply::Later)?;
     room[END] = admitted.end;
     Ok(admitted.fresh)
 }

@@ -8,10 +8,11 @@ use native.Mathlib.Omega.{arith}
 use borrow.Author.Tests.{eqb-true, leb-false, le-leb, lt-leb, ne_eqb}
 use lib.Dec.{eqb, leb}
 use lib.ListN.{drop, get_or, length, length-append, replicate, take}
-use Rattle.wire.specs.Layout.{Field, number, text, Value, decode, encode, Fits, Holds}
+use Rattle.wire.specs.Layout.{Field, number, text, decode, encode, Fits, Holds}
 use Rattle.wire.specs.Number.{be, splice, Bytes}
-use Rattle.wire.specs.declared.write.Written.{Written}
-use Rattle.wire.specs.declared.write.Written.TheVariants as written
+use Rattle.std.proofs.Common.{Ok, Err}
+use Rattle.refusals.specs.declared.Refusal.{Refusal}
+use Rattle.refusals.specs.declared.Refusal.TheVariants.{RuleBroken}
 use Rattle.wire.proofs.Digits.{be_bytes, length-be}
 use Rattle.wire.proofs.Layouts.{decode-encode}
 use Rattle.wire.proofs.Place.{length-splice}
@@ -21,8 +22,7 @@ use Rattle.message.specs.Table.{payload_of, too_short}
 use Rattle.message.specs.declared.kinds.Message.{Message}
 use Rattle.message.proofs.Cases.{by_type, Unopened}
 use Rattle.message_write.specs.Writing.{buffer_after, write_of}
-use Rattle.single.specs.Given.{bytes_from, given_buffer, given_of, message_given, row_from, too_wide, type_given, value_from, wide_from}
-use Rattle.single.specs.Told.{written_refusal, written_told}
+use Rattle.single.specs.Given.{bytes_from, given_buffer, given_of, message_given, message_if, row_from, too_wide, type_given, value_from, wide_from}
 use Rattle.single.specs.Words.{total, widths_by, widths_in, widths_of, words_of, Laid}
 use Rattle.single.specs.declared.words.Words.{Words}
 use Rattle.single.proofs.Laying.{laid, layout-none, widths_are}
@@ -121,18 +121,13 @@ message_there t ns put good =
     ∙ ap (λ (l : List ℕ). message_of t (decode fs 3 (take 3 zeros ++ (l ++ drop (3 + length bs) zeros)))) (sym (encode-is t ns))
     ∙ ap (message_of t) (decode-encode fs (row_from fs 1 ns) (take 3 zeros) (drop (3 + length bs) zeros) (row_fits fs 1 ns good))
 
--- ---- what writing answers
+-- ---- the message that the numbers give
 
-module _ (ns buf : List ℕ) (at : ℕ) (old : List ℕ) where
-  abbrev Answered : ℕ → List ℕ → List ℕ → Type 0
-  Answered refusal after told =
-      (refusal ≡ written_refusal (given_of ns buf at)) × ((after ≡ given_buffer ns buf at) × (told ≡ written_told (given_of ns buf at) old))
+module _ (ns : List ℕ) where
+  by_wide : too_wide ns ≡ true → Err RuleBroken ≡ message_if ns
+  by_wide h = sym (simp h)
 
-  by_wide : too_wide ns ≡ true → Answered 14 buf old
-  unfolding given_of given_buffer
-  by_wide h = (sym (simp h), (sym (simp h), sym (simp h)))
-
-  pub type_wide : 256 ≤ type_given ns → Answered 14 buf old
+  pub type_wide : 256 ≤ type_given ns → Err RuleBroken ≡ message_if ns
   unfolding too_wide
   type_wide h = by_wide (simp (le-leb 256 (type_given ns) h))
 
@@ -144,19 +139,43 @@ module _ (ns buf : List ℕ) (at : ℕ) (old : List ℕ) where
     unfolding too_wide
     wide_is = simp (lt-leb 256 (type_given ns) small) (sym told_wide)
 
-    pub field_wide : r ≡ true → Answered 14 buf old
+    pub field_wide : r ≡ true → Err RuleBroken ≡ message_if ns
     field_wide e = by_wide (wide_is ∙ e)
 
-    module _ (e : r ≡ false) {bytes : List ℕ} (put : bytes ≡ splice (replicate 55 0) 3 (bytes_from (widths_by words) 1 ns)) {m : Message} (read : m ≡ fields_of (type_given ns) bytes) where
-      message_is : m ≡ message_given ns
-      message_is =
-          read
-          ∙ message_there (type_given ns) ns (put ∙ ap (λ (ws : List ℕ). splice (replicate 55 0) 3 (bytes_from ws 1 ns)) (ap widths_by are ∙ widths_are (type_given ns))) (sym told_wide ∙ e)
+    pub all_fit : r ≡ false → {bytes : List ℕ} → bytes ≡ splice (replicate 55 0) 3 (bytes_from (widths_by words) 1 ns) → {m : Message} → m ≡ fields_of (type_given ns) bytes → Ok m ≡ message_if ns
+    all_fit e {bytes} put {m} read =
+        let is : m ≡ message_given ns =
+        read
+        ∙ message_there (type_given ns) ns (put ∙ ap (λ (ws : List ℕ). splice (replicate 55 0) 3 (bytes_from ws 1 ns)) (ap widths_by are ∙ widths_are (type_given ns))) (sym told_wide ∙ e) in
+        ap Ok is ∙ sym (simp (wide_is ∙ e))
 
-      pub given_written : {w : Written} {refusal : ℕ} {after told : List ℕ} → w ≡ write_of m buf at → after ≡ buffer_after m buf at → refusal ≡ written_refusal w → told ≡ written_told w old → Answered refusal after told
-      unfolding given_of given_buffer
-      given_written {w} answered after refused told =
-          let is : w ≡ given_of ns buf at = answered ∙ ap (λ (x : Message). write_of x buf at) message_is ∙ sym (simp (wide_is ∙ e)) in (
-            refused ∙ ap written_refusal is,
-            (after ∙ ap (λ (x : Message). buffer_after x buf at) message_is ∙ sym (simp (wide_is ∙ e)), told ∙ ap (λ (x : Written). written_told x old) is),
-          )
+-- ---- what writing answers
+
+module _ (ns buf : List ℕ) (at : ℕ) where
+  pub none_given : {refusal : Refusal} → Err refusal ≡ message_if ns → (Err refusal ≡ given_of ns buf at) × (buf ≡ given_buffer ns buf at)
+  unfolding given_of given_buffer
+  none_given {refusal} h = go (too_wide ns) refl
+    where
+      go : (b : Bool) → too_wide ns ≡ b → (Err refusal ≡ given_of ns buf at) × (buf ≡ given_buffer ns buf at)
+      go true e =
+          let f : Err refusal ≡ Err RuleBroken = simp e at h in
+          let same : refusal ≡ RuleBroken = cc in
+          (ap Err same ∙ sym (simp e), sym (simp e))
+      go false e =
+          let f : Err refusal ≡ Ok (message_given ns) = simp e at h in
+          let no : ◌≡◌ {A = ℕ} 0 1 = cc in
+          absurd (omega arith)
+
+  pub one_given : {m : Message} → Ok m ≡ message_if ns → (write_of m buf at ≡ given_of ns buf at) × (buffer_after m buf at ≡ given_buffer ns buf at)
+  unfolding given_of given_buffer
+  one_given {m} h = go (too_wide ns) refl
+    where
+      go : (b : Bool) → too_wide ns ≡ b → (write_of m buf at ≡ given_of ns buf at) × (buffer_after m buf at ≡ given_buffer ns buf at)
+      go true e =
+          let f : Ok m ≡ Err RuleBroken = simp e at h in
+          let no : ◌≡◌ {A = ℕ} 0 1 = cc in
+          absurd (omega arith)
+      go false e =
+          let f : Ok m ≡ Ok (message_given ns) = simp e at h in
+          let same : m ≡ message_given ns = cc in
+          (ap (λ (x : Message). write_of x buf at) same ∙ sym (simp e), ap (λ (x : Message). buffer_after x buf at) same ∙ sym (simp e))

@@ -10,17 +10,16 @@ use lib.Dec.{eqb, leb}
 use lib.ListN.{length, replicate, set, take}
 use Rattle.wire.specs.Layout.{Field}
 use Rattle.message.specs.Layouts.{layout_of, type_in}
-use Rattle.message.specs.Reading.{accepted, read_of}
+use Rattle.message.specs.Reading.{read_of}
 use Rattle.message.specs.Row.{fields_of, message_of}
 use Rattle.message.specs.Table.{payload_of, too_short}
-use Rattle.message.specs.declared.answer.Reading.{Reading}
-use Rattle.message.specs.declared.answer.Verdict.{Verdict}
-use Rattle.message.specs.declared.answer.Verdict.TheVariants.{Accepted, Refused}
+use Rattle.std.proofs.Common.{Result, Ok}
+use Rattle.refusals.specs.declared.Refusal.{Refusal}
 use Rattle.message.specs.declared.kinds.Message.{Message}
 use Rattle.message.proofs.Cases.{by_type, room, unlisted, unopened, Unopened}
 use Rattle.message.proofs.Readings.{taken, Taken}
 use Rattle.single.specs.Over.{over, over_from}
-use Rattle.single.specs.Words.{message_numbers, message_refusal, message_told, told_by, total, verdict_refusal, widths_by, widths_of, words_at, words_of, Laid, Width, Widths}
+use Rattle.single.specs.Words.{message_numbers, message_told, total, widths_by, widths_of, words_at, words_of, Laid, Width, Widths}
 use Rattle.single.specs.declared.words.Words.{Words}
 
 -- ---- a width that is none of the first three
@@ -137,22 +136,13 @@ tell_is s old {kind} e are told =
     ∙ ap (λ (ws : List ℕ). over_from 1 (words_at ws 3 s) (set old 0 kind)) (ap widths_by are ∙ widths_are kind)
     ∙ ap (λ (t : ℕ). over_from 1 (words_at (widths_of (layout_of t)) 3 s) (set old 0 t)) e
 
-module _ (s old : List ℕ) {r : Reading} (told : r ≡ read_of s) where
-  module _ (e : r.verdict ≡ Accepted) where
-    is : read_of s ≡ accepted r.message
-    is = sym told ∙ ap (λ (v : Verdict). record { verdict = v; message = r.message }) e
+module _ (s : List ℕ) where
+  pub read_laid : (m : Message) → Ok m ≡ read_of s → Laid (words_of (type_in s)) (length s)
+  read_laid m told = let t : Taken s m = taken s m (sym told) in laid (type_in s) (length s) t.least t.enough
 
-    pub read_laid : Laid (words_of (type_in s)) (length s)
-    read_laid = let t : Taken s r.message = taken s r.message is in laid (type_in s) (length s) t.least t.enough
-
-    pub read_accepted : {after : List ℕ} → after ≡ over (type_in s ∷ words_at (widths_of (layout_of (type_in s))) 3 s) old → (0 ≡ message_refusal (read_of s)) × (after ≡ message_told (read_of s) old)
-    read_accepted put = (
-      sym (ap message_refusal is),
+  pub read_accepted : (m : Message) (old : List ℕ) {after : List ℕ} → Ok m ≡ read_of s → after ≡ over (type_in s ∷ words_at (widths_of (layout_of (type_in s))) 3 s) old → after ≡ message_told (read_of s) old
+  read_accepted m old told put =
       put
-          ∙ ap (λ (ns : List ℕ). over ns old) (sym (numbers_are (type_in s) s))
-          ∙ ap (λ (m : Message). over (message_numbers m) old) (taken s r.message is).fields
-          ∙ sym (ap (λ (x : Reading). message_told x old) is),
-    )
-
-  pub read_refused : {why : ℕ} → r.verdict ≡ Refused why → (why ≡ message_refusal (read_of s)) × (old ≡ message_told (read_of s) old)
-  read_refused e = (sym (ap verdict_refusal e) ∙ ap message_refusal told, sym (ap (λ (v : Verdict). told_by v r.message old) e) ∙ ap (λ (x : Reading). message_told x old) told)
+      ∙ ap (λ (ns : List ℕ). over ns old) (sym (numbers_are (type_in s) s))
+      ∙ ap (λ (x : Message). over (message_numbers x) old) (taken s m (sym told)).fields
+      ∙ ap (λ (r : Result Message Refusal). message_told r old) told

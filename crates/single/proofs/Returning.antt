@@ -8,19 +8,20 @@ use native.Mathlib.Omega.{arith}
 use borrow.Author.Tests.{lt-leb}
 use lib.Dec.{leb}
 use lib.ListN.{get_or, length, length-append}
-use Rattle.wire.specs.Layout.{Field, Value, decode, encode, width_of, Fits}
+use Rattle.wire.specs.Layout.{Field, decode, encode, width_of}
 use Rattle.wire.specs.Number.{be, num, part, Bytes}
 use Rattle.wire.proofs.Digits.{num_small}
 use Rattle.wire.proofs.Layouts.{decode-encode, decode_fits, encode-decode}
 use Rattle.wire.proofs.Place.{be-part, length_part, part-add, part_bytes}
 use Rattle.message.specs.Layouts.{layout_of, type_in}
-use Rattle.message.specs.Reading.{accepted, read_of}
+use Rattle.std.proofs.Common.{Ok}
+use Rattle.message.specs.Reading.{read_of}
 use Rattle.message.specs.Row.{fields_of, message_of}
 use Rattle.message.specs.declared.kinds.Message.{Message}
 use Rattle.message.proofs.Cases.{by_type}
 use Rattle.message.proofs.Readings.{taken, Taken}
 use Rattle.single.specs.Given.{bytes_from, message_given, row_from, too_wide, wide_from}
-use Rattle.single.specs.Words.{message_numbers, total, widths_by, widths_of, words_at, words_of}
+use Rattle.single.specs.Words.{message_numbers, total, widths_of, words_at}
 use Rattle.single.proofs.Giving.{encode-is, row_fits}
 use Rattle.single.proofs.Laying.{laid, layout-none, numbers_are, widths_are}
 
@@ -93,7 +94,7 @@ module _ (s : List ℕ) (bytes : Bytes s) where
 
 -- For every byte string that reading accepts: the numbers that it is told in, whatever stands behind them, are no wider than their
 -- fields, and the message that they give is the one that was read.
-pub told_given : (s : List ℕ) (m : Message) (rest : List ℕ) → Bytes s → read_of s ≡ accepted m → (too_wide (message_numbers m ++ rest) ≡ false) × (message_given (message_numbers m ++ rest) ≡ m)
+pub told_given : (s : List ℕ) (m : Message) (rest : List ℕ) → Bytes s → read_of s ≡ Ok m → (too_wide (message_numbers m ++ rest) ≡ false) × (message_given (message_numbers m ++ rest) ≡ m)
 unfolding fields_of too_wide
 told_given s m rest bytes read =
     let f : Taken s m = taken s m read in

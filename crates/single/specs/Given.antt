@@ -1,6 +1,6 @@
 -- A message given by its numbers, and what writing it answers.
 -- Assumes nothing.
-use Rattle.std.specs.Prelude.{Bool, false, cond, ◌||◌, List, [], ◌∷◌, ◌++◌, ℕ, suc, ◌+◌, ◌^◌, leb, get_or, length, Result, Err}
+use Rattle.std.specs.Prelude.{Bool, false, cond, ◌||◌, List, [], ◌∷◌, ◌++◌, ℕ, suc, ◌+◌, ◌^◌, leb, get_or, length, Result, Ok, Err}
 use Rattle.refusals.specs.declared.Refusal.{Refusal}
 use Rattle.refusals.specs.declared.Refusal.TheVariants.{RuleBroken}
 use Rattle.wire.specs.Layout.{Field, number, text, Value, number_is, text_is}
@@ -40,6 +40,9 @@ message_given ns = message_of (type_given ns) (row_from (layout_of (type_given n
 -- a number that no field of its width holds makes no message
 unfoldable pub too_wide : List ℕ → Bool
 too_wide ns = leb 256 (type_given ns) || wide_from (widths_of (layout_of (type_given ns))) 1 ns
+
+abbrev pub message_if : List ℕ → Result Message Refusal
+message_if ns = cond (too_wide ns) (Err RuleBroken) (Ok (message_given ns))
 
 -- then 14, and the buffer stays; else as the message is written
 unfoldable pub given_of : List ℕ → List ℕ → ℕ → Result ℕ Refusal

@@ -4,13 +4,15 @@ ghost use Rattle.wire.specs.Number.{splice};
 ghost use Rattle.message.specs.Layouts.{layout_of, type_in};
 ghost use Rattle.message.specs.Reading.{read_of};
 ghost use Rattle.single.specs.Over.{over, over_from};
-ghost use Rattle.single.specs.Given.{bytes_from, given_buffer, given_of, wide_from};
+ghost use Rattle.single.specs.Given.{bytes_from, given_buffer, given_of, message_if, wide_from};
 ghost use Rattle.refusals.specs.Refusals.{refusal_in};
 ghost use Rattle.single.specs.Told.{number_told};
 ghost use Rattle.single.specs.Words.{message_told, widths_by, widths_of, words_at, words_of, Laid};
 
 use crate::telling;
 use crate::words::{Words, number_at, put_number, too_wide, words_of};
+use message::Message;
+use refusals::Refusal;
 
 fn tell_fields(s: &[u8], words: Words, told: &mut [u64; 14])
     requires { Laid words (length s.now) }
@@ -72,23 +74,33 @@ fn fill(numbers: &[u64; 14], words: Words, bytes: &mut [u8]) -> bool
     false
 }
 
-// The message of such numbers, at a place in a buffer; told is how many bytes it has. A number that does not fit in its
-// field is refused with 14.
+// The message of such numbers. A number that does not fit in its field makes none.
+fn given(numbers: &[u64; 14]) -> Result<Message, Refusal>
+    ensures { result ≡ message_if numbers.now }
+{
+    let first = numbers[0];
+    if 256 <= first {
+        return Err(Refusal::RuleBroken);
+    }
+    let kind = first as u8;
+    let mut bytes = [0u8; 55];
+    if fill(numbers, words_of(kind), &mut bytes) {
+        return Err(Refusal::RuleBroken);
+    }
+    Ok(message_read::parts::fields(&bytes, kind))
+}
+
+// The message of such numbers, at a place in a buffer; told is how many bytes it has.
 pub fn write(numbers: &[u64; 14], buf: &mut [u8], at: usize, told: &mut [u64; 1]) -> u64
     ensures refusal { result ≡ refusal_in (given_of numbers.now buf.old at) }
     ensures buffer { buf.new ≡ given_buffer numbers.now buf.old at }
     ensures told { told.new ≡ number_told (given_of numbers.now buf.old at) told.old }
 {
-    let first = numbers[0];
-    if 256 <= first {
-        return 14;
+    match given(numbers) {
+        Ok(message) => {
+            let written = message_write::write(message, buf, at);
+            telling::tell(told, written.map(telling::count))
+        }
+        Err(refusal) => refusal.number() as u64,
     }
-    let kind = first as u8;
-    let mut bytes = [0u8; 55];
-    if fill(numbers, words_of(kind), &mut bytes) {
-        return 14;
-    }
-    let message = message_read::parts::fields(&bytes, kind);
-    let written = message_write::write(message, buf, at);
-    telling::tell(told, written.map(telling::count))
 }

@@ -1,5 +1,5 @@
 pub mod Moving
 pub mod Numbers
 pub mod Pairs
-pub mod Scanning
+pub mod Split
 pub mod Spelling

@@ -1,6 +1,6 @@
 -- The words of a line: what stands between its spaces.
 -- Assumes nothing.
-use Rattle.std.specs.Prelude.{cond, ◌≡◌, List, [], ◌∷◌, ◌++◌, ℕ, ◌+◌, ◌-◌, ◌≤◌, eqb, length, get_or, take, drop}
+use Rattle.std.specs.Prelude.{cond, ◌≡◌, List, [], ◌∷◌, ◌++◌, ℕ, ◌+◌, ◌≤◌, eqb, length, get_or}
 
 -- bytes in front of the first word
 abbrev pub before : List ℕ → List (List ℕ) → List (List ℕ)
@@ -22,21 +22,6 @@ count_of line = count_from 0 (words_of line)
 
 unfoldable pub word_of : List ℕ → ℕ → List ℕ
 word_of line k = get_or (words_of line) k []
-
--- the words behind one that ends at a place
-abbrev pub behind : List ℕ → ℕ → List (List ℕ)
-behind line stop = cond (eqb stop (length line)) [] (words_of (drop (stop + 1) line))
-
--- the word that starts at a place ends at r
-pub record Ends (line : List ℕ) (from r : ℕ) : Type 0 where
-  pub least : from ≤ r
-  pub most : r ≤ length line
-  pub word : words_of (drop from line) ≡ take (r - from) (drop from line) ∷ behind line r
-
--- word k starts at r
-pub record Starts (line : List ℕ) (k r : ℕ) : Type 0 where
-  pub within : r ≤ length line
-  pub word : get_or (words_of (drop r line)) 0 [] ≡ word_of line k
 
 pub record Counts (line : List ℕ) (r : ℕ) : Type 0 where
   pub is : r ≡ count_of line

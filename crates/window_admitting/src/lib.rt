@@ -4,13 +4,13 @@
 ghost use Rattle.std.specs.Prelude.{◌≡◌, ◌&&◌, eqb};
 ghost use Rattle.packet.specs.Walk.{frames_from};
 ghost use Rattle.window_taking.specs.Taking.{differ_from, is_some};
-ghost use Rattle.window_taking.specs.Keeping.{state_of, waiting_of, window_for, Neat, Known, Passed, admitted_of, held_by};
+ghost use Rattle.window_taking.specs.Keeping.{state_of, waiting_of, window_for, Neat, Known, Passed, admitted_of, at_once, held_by};
 
 use packet::header;
 use packet_judge::judge;
 use refusals::Refusal;
 use window::places::{NUMBERS, Window};
-use window_taking::admitting::Admitted;
+use window_taking::admitting::{Admitted, Apply};
 use window_taking::differing::differs;
 use window_taking::keeping::keep_all;
 
@@ -26,13 +26,13 @@ fn taken(end: u64) -> Admitted
 }
 
 // Nothing is known beyond next, and the packet starts there; where its messages are to be applied at once.
-fn straight(through: bool, next: u64, end: u64, first: u64) -> bool
-    ensures { result ≡ (through && (eqb end next && eqb first next)) }
+fn straight(apply: Apply, next: u64, end: u64, first: u64) -> bool
+    ensures { result ≡ (at_once apply && (eqb end next && eqb first next)) }
 {
-    if !through {
-        return false;
+    match apply {
+        Apply::Now => end == next && first == next,
+        Apply::Later => false,
     }
-    if end == next { first == next } else { false }
 }
 
 // Test 10. What waits lies below end, so a packet that starts there or behind it differs from nothing.
@@ -48,12 +48,12 @@ fn clashes(window: &Window, next: u64, end: u64, s: &[u8], first: u64, messages:
     differs(window, next, s, first, messages)
 }
 
-// `through` says that its messages are applied at once; without it they are kept in any case.
-pub fn admit(window: &mut Window, next: u64, end: u64, s: &[u8], through: bool) -> Result<Admitted, Refusal>
+// A packet that is taken is kept, or left to be applied straight from its bytes; one that is refused changes nothing.
+pub fn admit(window: &mut Window, next: u64, end: u64, s: &[u8], apply: Apply) -> Result<Admitted, Refusal>
     requires neat { Neat window.old next }
     requires known { Known window.old next end }
-    ensures answer { result ≡ admitted_of through (state_of window.old next end) s.now }
-    ensures kept { window.new ≡ window_for (held_by through (state_of window.old next end) s.now).waiting next }
+    ensures answer { result ≡ admitted_of (at_once apply) (state_of window.old next end) s.now }
+    ensures kept { window.new ≡ window_for (held_by (at_once apply) (state_of window.old next end) s.now).waiting next }
 {
     judge(s)?;
     let head = header::fields(s);
@@ -70,7 +70,7 @@ pub fn admit(window: &mut Window, next: u64, end: u64, s: &[u8], through: bool) 
     if stop <= next {
         return Ok(behind);
     }
-    if straight(through, next, end, first) {
+    if straight(apply, next, end, first) {
         let direct = messages as usize;
         return Ok(Admitted { direct, ..behind });
     }

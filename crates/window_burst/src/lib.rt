@@ -10,7 +10,7 @@ ghost use Rattle.window_taking.specs.Turns.{frame_at, from_by, packet_at, turn_o
 use refusals::Refusal;
 use window::places::{NUMBERS, Window};
 use window_admitting::admit;
-use window_taking::admitting::Admitted;
+use window_taking::admitting::{Admitted, Apply};
 use window_taking::burst::{Frame, Turn};
 
 // No more than these can wait.
@@ -99,7 +99,7 @@ fn begin(
         direct: 0,
         from: 0,
     };
-    match admit(window, next, end, &s[start..stop], true) {
+    match admit(window, next, end, &s[start..stop], Apply::Now) {
         Ok(admitted) => Turn {
             end: admitted.end,
             direct: admitted.direct,
@@ -163,10 +163,7 @@ pub fn put_answer(answers: &mut [u64], place: usize, first: u64, refusal: u64, n
     requires { place + 4 ≤ length answers.old }
     ensures { answers.new ≡ splice answers.old place (first ∷ refusal ∷ next ∷ end ∷ []) }
 {
-    answers[place] = first;
-    answers[place + 1] = refusal;
-    answers[place + 2] = next;
-    answers[place + 3] = end;
+    answers[place..place + 4].copy_from_slice(&[first, refusal, next, end]);
 }
 
 // The number of a refusal, 0 where there is none.

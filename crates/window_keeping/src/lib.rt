@@ -11,6 +11,7 @@ use refusals::number_in;
 use window::places::Window;
 use window_admitting::admit;
 use window_burst::{done, framed, put_answer, start};
+use window_taking::admitting::Apply;
 use window_taking::burst::Turn;
 
 // How many packets there were, where the bytes behind them begin, and end behind them.
@@ -35,7 +36,7 @@ fn keep_next(window: &mut Window, s: &[u8], answers: &mut [u64], turn: Turn, nex
     let begin = frame.start;
     let behind = begin + frame.size;
     let place = turn.place;
-    let admitted = admit(window, next, turn.end, &s[begin..behind], false);
+    let admitted = admit(window, next, turn.end, &s[begin..behind], Apply::Later);
     let refusal = number_in(&admitted) as u64;
     let (fresh, end) = match admitted {
         Ok(taken) => (taken.fresh, taken.end),

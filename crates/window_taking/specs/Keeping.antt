@@ -1,6 +1,6 @@
 -- Document 01, "Taking a packet", on the window alone: what waits in it, and what it holds once a packet is kept.
 -- Assumes nothing.
-use Rattle.std.specs.Prelude.{◌≡◌, Bool, false, cond, ◌&&◌, List, [], ◌∷◌, ℕ, ◌+◌, ◌≤◌, ◌<◌, eqb, length, Result, None}
+use Rattle.std.specs.Prelude.{◌≡◌, Bool, true, false, cond, ◌&&◌, List, [], ◌∷◌, ℕ, ◌+◌, ◌≤◌, ◌<◌, eqb, length, Result, None}
 use Rattle.std.proofs.Math.Option.{Option, none, some}
 use Rattle.wire.specs.Number.{part}
 use Rattle.refusals.specs.Refusals.{answered}
@@ -13,6 +13,8 @@ use Rattle.window.specs.Window.{waits_at, window_of}
 use Rattle.message.specs.Whole.{Whole}
 use Rattle.window_taking.specs.Taking.{judge, take_tests}
 use Rattle.window_taking.specs.declared.admitting.Admitted.{Admitted}
+use Rattle.window_taking.specs.declared.admitting.Apply.{Apply}
+use Rattle.window_taking.specs.declared.admitting.Apply.TheVariants.{Now, Later}
 
 -- what waits under a number, by a window of which next is the first number
 unfoldable pub waiting_of : List ℕ → ℕ → ℕ → Option (List ℕ)
@@ -48,6 +50,11 @@ pub record Passed (s : List ℕ) (next first messages : ℕ) : Type 0 where
   pub walk : walk_from messages 12 s ≡ None
   pub long : 12 ≤ length s
   pub near : first + messages ≤ next + 256
+
+-- whether a packet's messages are applied at once
+abbrev pub at_once : Apply → Bool
+at_once Now = true
+at_once Later = false
 
 abbrev pub starts_at : ℕ → Option (Packet (List ℕ)) → Bool
 starts_at next none = false

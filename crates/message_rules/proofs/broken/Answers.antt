@@ -47,36 +47,3 @@ returns-in-Trade c = kind_is _ c.in-Trade.is c.trade.ensures
 
 pub returns-in-Other : goal.returns-in-Other
 returns-in-Other c = kind_is _ c.in-Other.is (other_is _ _ _ _)
-
-pub trading_session-requires : goal.trading_session-requires
-trading_session-requires c = tt
-
-pub good_id-requires : goal.good_id-requires
-good_id-requires c = tt
-
-pub add-requires : goal.add-requires
-add-requires c = tt
-
-pub good_id-requires-in-Update : goal.good_id-requires-in-Update
-good_id-requires-in-Update c = tt
-
-pub update-requires : goal.update-requires
-update-requires c = tt
-
-pub good_id-requires-in-Delete : goal.good_id-requires-in-Delete
-good_id-requires-in-Delete c = tt
-
-pub delete-requires : goal.delete-requires
-delete-requires c = tt
-
-pub good_id-requires-in-Execution : goal.good_id-requires-in-Execution
-good_id-requires-in-Execution c = tt
-
-pub of_execution-requires : goal.of_execution-requires
-of_execution-requires c = tt
-
-pub top-requires : goal.top-requires
-top-requires c = tt
-
-pub trade-requires : goal.trade-requires
-trade-requires c = tt

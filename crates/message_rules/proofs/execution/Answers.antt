@@ -6,12 +6,3 @@ use Rattle.message_rules.proofs.execution.Goals as goal
 
 pub returns : goal.returns
 returns c = broken_is 7 c.broken_or.ensures refl (broken_is 21 c.broken_or-sized.ensures c.good_quantity.ensures refl)
-
-pub good_quantity-requires : goal.good_quantity-requires
-good_quantity-requires c = tt
-
-pub broken_or-sized-requires : goal.broken_or-sized-requires
-broken_or-sized-requires c = tt
-
-pub broken_or-requires : goal.broken_or-requires
-broken_or-requires c = tt

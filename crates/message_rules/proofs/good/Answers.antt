@@ -7,6 +7,3 @@ use Rattle.message_rules.proofs.good.Goals as goal
 
 pub returns : goal.returns
 returns c = ap (λ (offset : ℕ). eqb offset 0) c.broken.ensures
-
-pub broken-requires : goal.broken-requires
-broken-requires c = tt

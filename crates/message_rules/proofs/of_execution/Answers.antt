@@ -8,9 +8,3 @@ returns-in-Published c = terms_are _ c.args.executed c.in-Published.is c.executi
 
 pub returns-in-Own : goal.returns-in-Own
 returns-in-Own c = terms_are _ c.args.executed c.in-Own.is c.priced.ensures
-
-pub execution-requires : goal.execution-requires
-execution-requires c = tt
-
-pub priced-requires : goal.priced-requires
-priced-requires c = tt

@@ -4,10 +4,4 @@ use Rattle.message.proofs.Cases.{broken_is}
 use Rattle.message_rules.proofs.trade.Goals as goal
 
 pub returns : goal.returns
-returns c = broken_is 7 c.broken_or.ensures c.good_trade_side.ensures c.deal-dealt.ensures
-
-pub good_trade_side-requires : goal.good_trade_side-requires
-good_trade_side-requires c = tt
-
-pub broken_or-requires : goal.broken_or-requires
-broken_or-requires c = tt
+returns c = broken_is 7 c.broken_or.ensures c.good_trade_side.ensures c.dealt-behind.ensures

@@ -6,9 +6,3 @@ use Rattle.message_rules.proofs.trading_session.Goals as goal
 
 pub returns : goal.returns
 returns c = broken_is 11 c.broken_or.ensures c.good_session.ensures refl
-
-pub good_session-requires : goal.good_session-requires
-good_session-requires c = tt
-
-pub broken_or-requires : goal.broken_or-requires
-broken_or-requires c = tt

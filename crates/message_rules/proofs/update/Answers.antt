@@ -6,18 +6,3 @@ use Rattle.message_rules.proofs.update.Goals as goal
 
 pub returns : goal.returns
 returns c = broken_is 7 c.broken_or.ensures refl (broken_is 21 c.broken_or-sized.ensures c.good_quantity.ensures (broken_is 25 c.broken_or-priced.ensures c.good_price.ensures refl))
-
-pub good_price-requires : goal.good_price-requires
-good_price-requires c = tt
-
-pub broken_or-priced-requires : goal.broken_or-priced-requires
-broken_or-priced-requires c = tt
-
-pub good_quantity-requires : goal.good_quantity-requires
-good_quantity-requires c = tt
-
-pub broken_or-sized-requires : goal.broken_or-sized-requires
-broken_or-sized-requires c = tt
-
-pub broken_or-requires : goal.broken_or-requires
-broken_or-requires c = tt

@@ -1,6 +1,6 @@
 -- `packet_reader::number::cursor_of` meets its contract: the messages still to be passed, from where the cursor is, lead to the same cursor.
 -- Assumes nothing.
-use Rattle.std.proofs.Common.{ap, ◌∙◌, sym}
+use Rattle.std.proofs.Common.{◌∙◌, sym}
 use native.Mathlib.Omega.{arith}
 use Rattle.packet_reader.proofs.Handing.{after-all, after_one}
 use Rattle.packet_reader.proofs.number.cursor_of.Goals as goal

@@ -1,24 +1,22 @@
 -- Where each message lies goes over the list: what is left of it, from where the loop is, is the whole of it.
 -- Assumes nothing.
-use native.Mathlib.Omega.{arith}
-use lib.ListN.{length-set}
+use Rattle.std.proofs.Common.{arith}
 use Rattle.single.proofs.Taking.{all, here, more, none}
 use Rattle.single.proofs.walking.put.Goals as goal
 
-pub loop-left-init : goal.loop-left-init
-loop-left-init c = none _ _ _ c.requires.walkable c.requires.messages_in_bounds
+pub loop-i-init : goal.loop-i-init
+loop-i-init c = none _ _ _ c.requires.walkable
 
 pub u16_at-size-requires : goal.u16_at-size-requires
-u16_at-size-requires c = omega (arith, (here _ _ _ _ _ _ _ c.loop-left.invariant c.loop-left-test.true).least, (here _ _ _ _ _ _ _ c.loop-left.invariant c.loop-left-test.true).within)
-
-pub bounds-places-k-in-loop-left : goal.bounds-places-k-in-loop-left
-bounds-places-k-in-loop-left c = simp length-set (omega (arith, c.loop-left.invariant.room, c.loop-left-test.true))
+u16_at-size-requires c =
+    let l = here _ _ _ _ _ _ c.loop-i.invariant c.loop-i-test.true in
+    omega (arith, l.least, l.within)
 
 pub overflow_add-at : goal.overflow_add-at
-overflow_add-at c = omega (arith, (here _ _ _ _ _ _ _ c.loop-left.invariant c.loop-left-test.true).within, c.u16_at-size.ensures)
+overflow_add-at c = omega (arith, (here _ _ _ _ _ _ c.loop-i.invariant c.loop-i-test.true).within, c.u16_at-size.ensures)
 
-pub loop-left-preserved : goal.loop-left-preserved
-loop-left-preserved c = more _ _ _ _ _ _ _ c.loop-left.invariant c.loop-left-test.true c.u16_at-size.ensures
+pub loop-i-preserved : goal.loop-i-preserved
+loop-i-preserved c = more _ _ _ _ _ _ c.loop-i.invariant c.loop-i-test.true c.u16_at-size.ensures
 
 pub returns : goal.returns
-returns c = all _ _ _ _ _ _ _ c.loop-left.invariant c.loop-left-test.false
+returns c = all _ _ _ _ _ _ c.loop-i.invariant c.loop-i-test.false

@@ -1,26 +1,25 @@
--- `text::words::count` meets its contract: the words behind those counted give the count.
+-- `text::words::count` meets its contract: a turn takes one part more.
 -- Assumes nothing.
-use mathlib.Core.Path.{refl, ◌∙◌, sym}
-use Rattle.text.specs.Words.{count_of}
-use Rattle.text.proofs.Scanning.{counted_none, counted_last, counted_more}
-use borrow.Author.Rules.{rules}
+use Rattle.std.proofs.Common.{rules, tests, eqb, sym, arith, [], ◌∷◌}
+use lib.ListN.{length-append}
+use Rattle.std.proofs.lemmas.Iterator.Splits.{YieldsList-from_slice_split}
+use Rattle.text.proofs.Split.{turn, end, counted_start, counted_empty, counted_more, counted_end}
 use Rattle.text.proofs.words.count.Goals as goal
 
-pub loop-from-init : goal.loop-from-init
-unfolding count_of
-loop-from-init c = (search rules, search rules, refl)
+pub loop-word-init : goal.loop-word-init
+loop-word-init c = (search rules, counted_start c.args.line.now)
 
-pub returns-then-stop-from : goal.returns-then-stop-from
-returns-then-stop-from c =
-    let e = c.before in
-    record { is = sym (counted_none _ _ _ _ e.end-stop.ensures c.if-stop-from.true) ∙ e.loop-from.invariant.2; most = search rules }
+pub returns-then-is_empty : goal.returns-then-is_empty
+returns-then-is_empty c =
+    let at = turn _ _ _ _ _ c.loop-word.yielded_by c.next.ensures.steps c.in-Some.is (YieldsList-from_slice_split _ (λ b. eqb b 32) c.args.line.now (cc) (cc) (cc) (λ x b q k. search (rules, tests))) in
+    counted_empty c.args.line.now c.loop-word.words c.loop-word.invariant.1 c.in-Some.word.now (rw c.loop-word.invariant.0 at.0) (rw c.loop-word.invariant.0 at.1) (search rules)
 
-pub returns-then-stop-line : goal.returns-then-stop-line
-returns-then-stop-line c =
-    let e = c.before.before in
-    record { is = sym (counted_last _ _ _ _ e.end-stop.ensures c.if-stop-from.false c.if-stop-line.true) ∙ e.loop-from.invariant.2; most = search rules }
+pub loop-word-preserved : goal.loop-word-preserved
+loop-word-preserved c =
+    let at = turn _ _ _ _ _ c.loop-word.yielded_by c.next.ensures.steps c.in-Some.is (YieldsList-from_slice_split _ (λ b. eqb b 32) c.args.line.now (cc) (cc) (cc) (λ x b q k. search (rules, tests))) in
+    (rw c.loop-word.invariant.0 (sym (length-append c.loop-word.yielded (c.in-Some.word ∷ []))), counted_more c.args.line.now c.loop-word.words c.loop-word.invariant.1 c.in-Some.word.now (rw c.loop-word.invariant.0 at.0) (rw c.loop-word.invariant.0 at.1) (search rules))
 
-pub loop-from-preserved : goal.loop-from-preserved
-loop-from-preserved c =
-    let e = c.before.before in
-    (search rules, search rules, sym (counted_more _ _ _ _ e.end-stop.ensures c.if-stop-from.false c.if-stop-line.false) ∙ e.loop-from.invariant.2)
+pub returns : goal.returns
+returns c =
+    let all = end _ _ _ _ c.loop-word.yielded_by c.next.ensures.steps c.in-None.is (YieldsList-from_slice_split _ (λ b. eqb b 32) c.args.line.now (cc) (cc) (cc) (λ x b q k. search (rules, tests))) in
+    counted_end c.args.line.now c.loop-word.words c.loop-word.invariant.1 (omega (arith, all, c.loop-word.invariant.0))

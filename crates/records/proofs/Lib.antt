@@ -1,2 +1,0 @@
--- Laws of the records' definitions.
-mod Heads
