@@ -12,6 +12,7 @@ use book::deciding::{Effect, Reason};
 use book::tables::OpeningRule;
 use book_judging::{added, deleted, executed, kept, shown, updated};
 use fields::parts::is_value;
+use message::Kind;
 
 pub mod reading;
 
@@ -79,11 +80,11 @@ pub fn change(bytes: &[u8], key: u64, order: Option<usize>, shares: u32, price: 
     requires { Keyed bytes.now key × (names (type_in bytes.now) ≡ true) }
     ensures { (seen : Seen) → seen.order ≡ order → seen.shares ≡ shares → seen.price ≡ price → result ≡ effect_of seen (message_in bytes.now) }
 {
-    let kind = wire::u8_at(bytes, 2);
+    let kind = Kind::try_from(wire::u8_at(bytes, 2)).unwrap();
     match kind {
-        22 => update(bytes, key, order),
-        23 => delete(bytes, key, order),
-        24 => execution(bytes, key, order, shares, price),
+        Kind::Update => update(bytes, key, order),
+        Kind::Delete => delete(bytes, key, order),
+        Kind::Execution => execution(bytes, key, order, shares, price),
         _ => priced(bytes, key, order, shares, price),
     }
 }
@@ -136,15 +137,13 @@ pub fn tell(bytes: &[u8], inside: Option<usize>, held: usize, rule: OpeningRule)
     requires { Whole bytes.now × ((leb 21 (type_in bytes.now) && leb (type_in bytes.now) 25) ≡ false) }
     ensures { (seen : Seen) → seen.inside ≡ inside → seen.held ≡ held → seen.rule ≡ rule → result ≡ effect_of seen (message_in bytes.now) }
 {
-    let kind = wire::u8_at(bytes, 2);
+    let Ok(kind) = Kind::try_from(wire::u8_at(bytes, 2)) else {
+        return unlisted(rule);
+    };
     match kind {
-        20 => session(bytes),
-        26 => top(bytes, inside, held),
-        27 => trade(bytes),
-        9 => Effect::Unchanged,
-        11 => Effect::Unchanged,
-        12 => Effect::Unchanged,
-        28 => Effect::Unchanged,
-        _ => unlisted(rule),
+        Kind::TradingSession => session(bytes),
+        Kind::Top => top(bytes, inside, held),
+        Kind::Trade => trade(bytes),
+        _ => Effect::Unchanged,
     }
 }
