@@ -45,7 +45,7 @@ some_there n e nought =
 
 -- whether one is there
 module _ (n : ℕ) {o : Option ℕ} (told : o ≡ some_size n) {there : Bool} (is : there ≡ is_some o) where
-  by_size : there ≡ not (eqb n 0)
+  pub by_size : there ≡ not (eqb n 0)
   by_size = is ∙ ap is_some told ∙ go (eqb n 0)
     where
       go : (b : Bool) → is_some (cond b None (Some n)) ≡ not b

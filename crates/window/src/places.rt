@@ -13,13 +13,19 @@ pub const BYTES: usize = (NUMBERS as usize) * PLACE;
 // The places, one behind the other.
 pub type Window = [u8; BYTES];
 
+// A size, if it is not 0.
+pub fn some_size(size: usize) -> Option<usize>
+    ensures { result ≡ some_size size }
+{
+    if size == 0 { None } else { Some(size) }
+}
+
 // The size of what waits at a place, which begins with it; a place that is free begins with zeros.
 pub fn size_at(window: &Window, place: usize) -> Option<usize>
     requires { place < 256 }
     ensures { result ≡ some_size (size_at window.now place) }
 {
-    let size = wire::u16_at(window, place * PLACE) as usize;
-    if size == 0 { None } else { Some(size) }
+    some_size(wire::u16_at(window, place * PLACE) as usize)
 }
 
 // What waits at a place, of a message's size, is that message, byte for byte.
