@@ -21,22 +21,22 @@ pub fn size_at(window: &Window, place: usize) -> usize
     wire::u16_at(window, place * PLACE) as usize
 }
 
-// What waits at a place, of a packet's message's size, is that message, byte for byte.
-pub fn agree(window: &Window, place: usize, s: &[u8], at: usize, size: usize) -> bool
-    requires { (place < 256) × ((size ≤ 128) × (at + size ≤ length s.now)) }
-    ensures { result ≡ eqb (agreeing (part window.now (start_of place) size) (part s.now at size)) size }
+// What waits at a place, of a message's size, is that message, byte for byte.
+pub fn agree(window: &Window, place: usize, message: &[u8]) -> bool
+    requires { (place < 256) × (length message.now ≤ 128) }
+    ensures { result ≡ eqb (agreeing (part window.now (start_of place) (length message.now)) message.now) (length message.now) }
 {
     let start = place * PLACE;
-    window[start..start + size] == s[at..at + size]
+    &window[start..start + message.len()] == message
 }
 
-// A message of a packet kept at a place.
-pub fn keep(window: &mut Window, place: usize, s: &[u8], at: usize, size: usize)
-    requires { (place < 256) × ((size ≤ 128) × (at + size ≤ length s.now)) }
-    ensures { window.new ≡ splice window.old (start_of place) (part s.now at size) }
+// A message kept at a place.
+pub fn keep(window: &mut Window, place: usize, message: &[u8])
+    requires { (place < 256) × (length message.now ≤ 128) }
+    ensures { window.new ≡ splice window.old (start_of place) message.now }
 {
     let start = place * PLACE;
-    window[start..start + size].copy_from_slice(&s[at..at + size]);
+    window[start..start + message.len()].copy_from_slice(message);
 }
 
 // A place made free.
