@@ -23,7 +23,7 @@ pub fn add(bytes: &[u8], key: u64, order: Option<usize>, live: usize) -> Effect
 {
     let fields = message_layouts::add(bytes);
     let broken = message_rules::add(is_value(key), &fields.deal, fields.unsolicited);
-    added(broken == 0, order, live)
+    added(broken.is_none(), order, live)
 }
 
 fn update(bytes: &[u8], key: u64, order: Option<usize>) -> Effect
@@ -32,7 +32,7 @@ fn update(bytes: &[u8], key: u64, order: Option<usize>) -> Effect
 {
     let fields = message_layouts::update(bytes);
     let broken = message_rules::update(is_value(key), fields.quantity, fields.price);
-    updated(broken == 0, order, fields.quantity, fields.price)
+    updated(broken.is_none(), order, fields.quantity, fields.price)
 }
 
 fn delete(bytes: &[u8], key: u64, order: Option<usize>) -> Effect
@@ -40,7 +40,7 @@ fn delete(bytes: &[u8], key: u64, order: Option<usize>) -> Effect
     ensures { (seen : Seen) → seen.order ≡ order → result ≡ effect_of seen (fields_of 23 bytes.now) }
 {
     let broken = message_rules::delete(is_value(key));
-    deleted(broken == 0, order)
+    deleted(broken.is_none(), order)
 }
 
 fn execution(bytes: &[u8], key: u64, order: Option<usize>, shares: u32, price: u64) -> Effect
@@ -50,7 +50,7 @@ fn execution(bytes: &[u8], key: u64, order: Option<usize>, shares: u32, price: u
     let fields = message_layouts::execution(bytes);
     let broken = message_rules::execution(is_value(key), fields.executed);
     executed(
-        broken == 0,
+        broken.is_none(),
         order,
         shares,
         price,
@@ -66,7 +66,7 @@ fn priced(bytes: &[u8], key: u64, order: Option<usize>, shares: u32, price: u64)
     let fields = message_layouts::priced(bytes);
     let broken = message_rules::priced(is_value(key), fields.execution.executed, fields.price);
     executed(
-        broken == 0,
+        broken.is_none(),
         order,
         shares,
         price,
@@ -95,7 +95,7 @@ fn session(bytes: &[u8]) -> Effect
 {
     let fields = message_layouts::trading_session(bytes);
     let broken = message_rules::trading_session(fields.session);
-    kept(broken == 0, Effect::Record(fields.session))
+    kept(broken.is_none(), Effect::Record(fields.session))
 }
 
 fn top(bytes: &[u8], inside: Option<usize>, held: usize) -> Effect
@@ -110,7 +110,7 @@ fn top(bytes: &[u8], inside: Option<usize>, held: usize) -> Effect
         fields.bid.price,
         fields.unsolicited,
     );
-    shown(broken == 0, inside, held)
+    shown(broken.is_none(), inside, held)
 }
 
 fn trade(bytes: &[u8]) -> Effect
@@ -119,7 +119,7 @@ fn trade(bytes: &[u8]) -> Effect
 {
     let fields = message_layouts::trade(bytes);
     let broken = message_rules::trade(&fields.deal);
-    kept(broken == 0, Effect::Unchanged)
+    kept(broken.is_none(), Effect::Unchanged)
 }
 
 // A type that is not in the table.
