@@ -32,6 +32,7 @@ use Rattle.book.specs.declared.tables.OpeningRule.{OpeningRule}
 use Rattle.book.proofs.Steps.{Decided, seen-is, unchanged_done}
 use Rattle.book.proofs.Told.{Change, by_faults, tells, unfaulted}
 use Rattle.book.proofs.Types.{add_id, no, pick, top_topic, type_kept}
+use Rattle.book_deciding.proofs.Listing.{named-listed}
 use Rattle.book_room.specs.Arms.{named_in}
 use Rattle.book_room.specs.declared.changing.Name.{Name}
 
@@ -111,16 +112,6 @@ module _ {b : Book} (s : List ℕ) (kept : Kept b) where
       }
 
 -- ---- what is left over
-
--- a type that names an order is in the table
-named-listed : (t : ℕ) → names t ≡ true → is_listed t ≡ true
-unfolding payload_of
-named-listed t named =
-    let lo = leb-true 22 t (and_left (leb 22 t) (leb t 25) named) in
-    let hi = leb-true t 25 (and_right (leb 22 t) (leb t 25) named) in
-    by_cases (dec_lt t 23) (λ l. let e : t ≡ 22 = omega arith in rw e refl)
-    λ a. by_cases (dec_lt t 24) (λ l. let e : t ≡ 23 = omega arith in rw e refl)
-    λ b. by_cases (dec_lt t 25) (λ l. let e : t ≡ 24 = omega arith in rw e refl) (λ c. let e : t ≡ 25 = omega arith in rw e refl)
 
 -- an Add that is no fault puts its order
 no_fault : (e : Effect) → ((reason : Reason) → e ≡ Fault reason → ⊥) → is_fault e ≡ false

@@ -1,5 +1,5 @@
 // The lines of standard input.
-ghost use Rattle.std.specs.Prelude.{◌≤◌};
+ghost use Rattle.std.specs.Prelude.{◌≤◌, ◌<◌, length, IfSome};
 
 use std::io;
 use std::io::Read;
@@ -23,6 +23,13 @@ pub struct Lines {
     ended: bool,
     ghost starts: { from ≤ to },
     ghost stops: { to ≤ 16384 },
+}
+
+// Where the first line feed is.
+fn feed(held: &[u8]) -> Option<usize>
+    ensures { IfSome result (λ k. k < length held.now) }
+{
+    held.iter().position(|b| *b == b'\n')
 }
 
 // A line of that many bytes, or what is left of one whose front was dropped, is too long.
@@ -72,8 +79,7 @@ impl Lines {
         let mut long = false;
         'reads: for _ in 0..u64::MAX {
             let from = self.from;
-            let held = &self.bytes[from..self.to];
-            if let Some(count) = held.iter().position(|b| *b == b'\n') {
+            if let Some(count) = feed(&self.bytes[from..self.to]) {
                 self.from = from + count + 1;
                 return Ok(Some(line_of(long, &self.bytes[from..from + count])));
             }

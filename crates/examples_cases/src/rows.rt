@@ -1,23 +1,31 @@
 // Parts: a case is a line, its label, a bar, and words behind it.
-ghost use Rattle.std.specs.Prelude.{◌≡◌, ◌-◌, ◌≤◌, length};
+ghost use Rattle.std.specs.List.{position};
+ghost use Rattle.std.specs.Prelude.{◌==◌, ◌≡◌, ◌-◌, ◌≤◌, length};
 ghost use Rattle.examples_cases.specs.Lines.{behind_of, label_of, letter_of, place_of, value_of};
 
 use text::number::parse;
 use text::words::word;
 
-// The first such byte, or the end.
-fn find(s: &[u8], byte: u8) -> usize
-    ensures is { result ≡ place_of byte s.now }
-    ensures most { result ≤ length s.now }
+fn bar(line: &[u8]) -> Option<usize>
+    ensures { result ≡ position (λ b. b == 124) line.now }
 {
-    s.iter().position(|b| *b == byte).unwrap_or(s.len())
+    line.iter().position(|b| *b == b'|')
+}
+
+// Where the bar is, or the end.
+#[tactic(auto, using(crate::proofs::Places::bar_or_end))]
+fn bar_or_end(line: &[u8]) -> usize
+    ensures is { result ≡ place_of 124 line.now }
+    ensures most { result ≤ length line.now }
+{
+    bar(line).unwrap_or(line.len())
 }
 
 // What stands before the bar and its space.
 pub fn label(line: &[u8]) -> &[u8]
     ensures { result.now ≡ label_of line.now }
 {
-    let bar = find(line, b'|');
+    let bar = bar_or_end(line);
     &line[..bar.saturating_sub(1)]
 }
 
@@ -25,7 +33,7 @@ pub fn label(line: &[u8]) -> &[u8]
 fn behind(line: &[u8], k: u8) -> &[u8]
     ensures { result.now ≡ behind_of line.now k }
 {
-    let bar = find(line, b'|');
+    let bar = bar_or_end(line);
     word(&line[bar..], k as usize + 1)
 }
 

@@ -7,7 +7,7 @@ use mathlib.Core.Option.{none}
 use Prim.Native.Nat.{ℕ, ◌+◌, ◌-◌, ◌*◌, ◌≤◌, ◌<◌, min}
 use lib.Dec.{ltb}
 use Rattle.wire.specs.Number.{Bytes}
-use Rattle.merge.specs.State.{Call, apply_some, applying, call_all, call_one, calls_of, keep_one, keeping, keeps_of, lowest_in, opened, take_all, take_one}
+use Rattle.merge.specs.State.{Call, apply_some, applying, call_all, call_one, calls_of, keeping, keeps_of, lowest_in, opened, take_all, take_one}
 use Rattle.merge.specs.History.{Genuine, Lowest, accepted, first_copy, sent_tables}
 use Rattle.merge.specs.Promise.{Demand3, Rule}
 use Rattle.merge.proofs.Demand3.{apply_some_moves, call_more, call_all_rule, opened_rule, take_calls}

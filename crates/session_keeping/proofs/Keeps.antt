@@ -4,8 +4,8 @@ use mathlib.Core.Path.{◌≡◌, refl, ap, ap₂, ◌∙◌, sym, subst}
 use mathlib.Core.Bool.{Bool, true, false, cond}
 use mathlib.Core.List.{List, [], ◌∷◌}
 use mathlib.Core.Option.{Option, none, some}
-use Prim.Native.Nat.{ℕ, ◌*◌, ◌/◌, ◌≤◌}
-use lib.Dec.{eqb, leb, ltb}
+use Prim.Native.Nat.{ℕ, ◌/◌}
+use lib.Dec.{eqb, leb}
 use lib.ListN.{length, set}
 use lib.Seq.{set-get_or}
 use Rattle.std.specs.Prelude.{Result, Ok, Err}
@@ -19,7 +19,7 @@ use Rattle.packet.specs.Header.{decided}
 use Rattle.book.specs.Tables as book
 use Rattle.book.specs.Tables.{Tables}
 use Rattle.book_room.specs.Room.{parts_of, room_of}
-use Rattle.window_taking.specs.Keeping.{Known, Neat, admitted_of, fresh_by, held_by, kept_all, kept_by, state_of, window_for}
+use Rattle.window_taking.specs.Keeping.{Known, Neat, admitted_of, fresh_by, held_by, kept_all, kept_by, window_for}
 use Rattle.window_taking.specs.Taking.{judge, take_tests}
 use Rattle.window_taking.specs.Turns.{end_by, packets_from, packets_in}
 use Rattle.window_taking.specs.declared.admitting.Admitted.{Admitted}
@@ -27,7 +27,7 @@ use Rattle.window_taking.proofs.Answered.{end_told}
 use Rattle.window_keeping.specs.Keeping.{kept_rows}
 use Rattle.session.specs.Asking.{line_in}
 use Rattle.session.specs.Meaning.{AllBytes, CallsBytes, Held, Meaning, Ruled, end_in, held, next_in, overnight, rep, view}
-use Rattle.session.proofs.Calls.{chosen, packets_bytes, rule_of}
+use Rattle.session.proofs.Calls.{chosen, rule_of}
 use Rattle.session.proofs.Runs.{as_state, bare, bare-judge, kept_next, state_known}
 use Rattle.session.proofs.States.{meaning, neat, ruled_calls, stands}
 use Rattle.session_keeping.specs.Keeping.{answers_kept, burst_kept, kept_of}

@@ -2,18 +2,18 @@
 -- Assumes nothing.
 use mathlib.Core.Path.{◌≡◌, refl, ap, ap₂, ◌∙◌, sym, subst}
 use mathlib.Core.Bool.{Bool, true, false, cond, not, ◌&&◌}
-use mathlib.Core.List.{List, [], ◌∷◌, map}
+use mathlib.Core.List.{List, map}
 use mathlib.Core.Option.{Option, none, some}
 use Prim.Native.Nat.{ℕ, ◌+◌, ◌%◌, ◌≤◌, ◌<◌}
 use native.Mathlib.Omega.{arith}
-use borrow.Author.Tests.{eq-eqb, le-leb, lt-leb, ltb-false, ne_eqb}
+use borrow.Author.Tests.{le-leb, lt-leb, ltb-false}
 use lib.Dec.{eqb, leb, ltb}
 use lib.ListN.{length, length-map}
 use Rattle.std.specs.Prelude.{Result, Ok}
 use Rattle.refusals.specs.declared.Refusal.{Refusal}
-use Rattle.wire.specs.Number.{Bytes, part}
+use Rattle.wire.specs.Number.{part}
 use Rattle.merge.specs.History.{Carries}
-use Rattle.merge.specs.State.{Packet, apply_up_to, call_all, call_one, copy_of, first_there, heartbeat, is_there, keep, keep_one, kept_if, packet, take_if, take_one}
+use Rattle.merge.specs.State.{Packet, first_there, heartbeat, is_there, keep, keep_one, kept_if, packet, take_if, take_one}
 use Rattle.merge.proofs.Clauses.{kept_new}
 use Rattle.merge.proofs.Copies.{copy_none}
 use Rattle.merge.proofs.Lowest.{stuck}

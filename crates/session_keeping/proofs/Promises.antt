@@ -4,9 +4,9 @@ use mathlib.Core.Path.{◌≡◌, refl, ap, ◌∙◌, sym, subst}
 use mathlib.Core.Bool.{Bool, true, false, cond}
 use mathlib.Core.List.{List, [], ◌∷◌, ◌++◌, map}
 use mathlib.Core.Option.{Option, none, some}
-use Prim.Native.Nat.{ℕ, zero, suc, ◌+◌, ◌-◌, ◌≤◌, ◌<◌, max, min}
+use Prim.Native.Nat.{ℕ, ◌+◌, ◌-◌, ◌≤◌, max, min}
 use native.Mathlib.Omega.{arith}
-use borrow.Author.Tests.{eq-eqb, eqb-false, eqb-true, leb-true, ne_eqb}
+use borrow.Author.Tests.{eq-eqb, eqb-true, leb-true, ne_eqb}
 use lib.Dec.{eqb, leb}
 use lib.ListN.{length-map}
 use Rattle.std.specs.Prelude.{Result, Ok, Err}
@@ -19,8 +19,8 @@ use Rattle.wire.specs.Number.{Bytes}
 use Rattle.merge.specs.State as merge
 use Rattle.merge.specs.State.{Call, Packet, apply_some, apply_up_to, applying, call_all, call_one, end_of, fresh_if, fresh_in, heartbeat, keep, keep_one, keeping, kept_if, lowest_in, opened, step, take_if, take_one}
 use Rattle.merge.proofs.Clauses.{keep-heartbeat}
-use Rattle.merge.proofs.Demand3.{apply_some_moves, call_more, keep-refused, keep_stands, take-refused}
-use Rattle.merge.proofs.Lowest.{keep_past, lowest_in_lem, lowest_unique}
+use Rattle.merge.proofs.Demand3.{apply_some_moves, keep-refused, keep_stands, take-refused}
+use Rattle.merge.proofs.Lowest.{keep_past, lowest_in_lem}
 use Rattle.merge.proofs.Rule.{keep_inv}
 use Rattle.packet.specs.Header as header
 use Rattle.packet.specs.Header.{Test, decided, header_in}

@@ -41,13 +41,9 @@ all_agree (x ∷ xs) (y ∷ ys) h = go (eqb x y) (all_agree xs ys (omega (arith,
     go true rest = rest ∙ sym (one_more (agreeing xs ys) (length ys))
     go false rest = sym (ne_eqb 0 (suc (length ys)) (λ e. omega (arith, e)))
 
--- the same of parts that are lent
-pub agree_lent : (w : List ℕ) (start : ℕ) (s : List ℕ) (at size : ℕ) → start + size ≤ length w → at + size ≤ length s
-    → pointwise eqb (take (start + size - start) (drop start w)) (take (at + size - at) (drop at s)) ≡ eqb (agreeing (part w start size) (part s at size)) size
-agree_lent w start s at size in_window in_packet =
-    (λ i. pointwise eqb (lent w start size in_window i) (lent s at size in_packet i))
-    ∙ all_agree (part w start size) (part s at size) (part_long w start size ∙ sym (part_long s at size))
-    ∙ ap (eqb (agreeing (part w start size) (part s at size))) (part_long s at size)
+-- the same of a part that is lent
+pub agree_lent : (w : List ℕ) (start : ℕ) (m : List ℕ) → start + length m ≤ length w → pointwise eqb (take (start + length m - start) (drop start w)) m ≡ eqb (agreeing (part w start (length m)) m) (length m)
+agree_lent w start m within = ap (λ (l : List ℕ). pointwise eqb l m) (lent w start (length m) within) ∙ all_agree (part w start (length m)) m (part_long w start (length m))
 
 -- bytes put over as many of them
 pub put_over : (w : List ℕ) (start : ℕ) (bs new : List ℕ) {size : ℕ} → length bs ≡ size → new ≡ bs → put_mid start (start + size - start) w new ≡ splice w start bs

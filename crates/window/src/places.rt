@@ -1,7 +1,7 @@
 // Parts: one place of the window.
 ghost use Rattle.std.specs.Prelude.{◌≡◌, ◌+◌, ◌*◌, ◌≤◌, ◌<◌, eqb, length};
 ghost use Rattle.wire.specs.Number.{part, splice};
-ghost use Rattle.window.specs.Window.{agreeing, size_at, start_of, zeros};
+ghost use Rattle.window.specs.Window.{agreeing, size_at, some_size, start_of, zeros};
 
 // How many numbers may wait, the bytes of a place, which has room for a longest message, and the bytes of all places.
 pub const NUMBERS: u64 = 256;
@@ -13,30 +13,37 @@ pub const BYTES: usize = (NUMBERS as usize) * PLACE;
 // The places, one behind the other.
 pub type Window = [u8; BYTES];
 
-// The size of what waits at a place, 0 where it is free.
-pub fn size_at(window: &Window, place: usize) -> usize
+// A size, if it is not 0.
+pub fn some_size(size: usize) -> Option<usize>
+    ensures { result ≡ some_size size }
+{
+    if size == 0 { None } else { Some(size) }
+}
+
+// The size of what waits at a place, which begins with it; a place that is free begins with zeros.
+pub fn size_at(window: &Window, place: usize) -> Option<usize>
     requires { place < 256 }
-    ensures { result ≡ size_at window.now place }
+    ensures { result ≡ some_size (size_at window.now place) }
 {
-    wire::u16_at(window, place * PLACE) as usize
+    some_size(wire::u16_at(window, place * PLACE) as usize)
 }
 
-// What waits at a place, of a packet's message's size, is that message, byte for byte.
-pub fn agree(window: &Window, place: usize, s: &[u8], at: usize, size: usize) -> bool
-    requires { (place < 256) × ((size ≤ 128) × (at + size ≤ length s.now)) }
-    ensures { result ≡ eqb (agreeing (part window.now (start_of place) size) (part s.now at size)) size }
+// What waits at a place, of a message's size, is that message, byte for byte.
+pub fn agree(window: &Window, place: usize, message: &[u8]) -> bool
+    requires { (place < 256) × (length message.now ≤ 128) }
+    ensures { result ≡ eqb (agreeing (part window.now (start_of place) (length message.now)) message.now) (length message.now) }
 {
     let start = place * PLACE;
-    window[start..start + size] == s[at..at + size]
+    &window[start..start + message.len()] == message
 }
 
-// A message of a packet kept at a place.
-pub fn keep(window: &mut Window, place: usize, s: &[u8], at: usize, size: usize)
-    requires { (place < 256) × ((size ≤ 128) × (at + size ≤ length s.now)) }
-    ensures { window.new ≡ splice window.old (start_of place) (part s.now at size) }
+// A message kept at a place.
+pub fn keep(window: &mut Window, place: usize, message: &[u8])
+    requires { (place < 256) × (length message.now ≤ 128) }
+    ensures { window.new ≡ splice window.old (start_of place) message.now }
 {
     let start = place * PLACE;
-    window[start..start + size].copy_from_slice(&s[at..at + size]);
+    window[start..start + message.len()].copy_from_slice(message);
 }
 
 // A place made free.

@@ -7,13 +7,13 @@ use mathlib.Core.List.{List, [], ◌∷◌, ◌++◌}
 use mathlib.Core.Option.{Option, none, some}
 use Prim.Native.Nat.{ℕ, zero, suc, ◌+◌, ◌-◌, ◌≤◌, ◌<◌}
 use native.Mathlib.Omega.{arith}
-use borrow.Author.Tests.{eq-eqb, eqb-true, eqb-false, ltb-true, ne_eqb}
+use borrow.Author.Tests.{eqb-true, eqb-false, ltb-true}
 use lib.Dec.{eqb, ltb}
 use lib.ListN.{length, get_or}
 use Rattle.refusals.specs.Refusals.{answered, in_order, number_of, refusal_by, refusal_in, refusal_or_none}
 use Rattle.refusals.specs.declared.Refusal.{Refusal}
 use Rattle.refusals.specs.declared.Refusal.TheVariants.{RuleBroken}
-use Rattle.merge.specs.State.{Packet, State, fresh_if, keep, kept_if}
+use Rattle.merge.specs.State.{Packet, State, fresh_if, kept_if}
 use Rattle.packet.specs.Header as header
 use Rattle.packet.specs.Header.{Test, decided, flag_tests, header_in, header_tests}
 use Rattle.packet.specs.Judging.{body_tests, packet_tests, unless_heartbeat}

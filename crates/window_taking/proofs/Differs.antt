@@ -8,9 +8,8 @@ use Prim.Native.Nat.{ℕ, zero, suc, ◌+◌, ◌-◌, ◌%◌, ◌≤◌, ◌<�
 use native.Mathlib.Omega.{arith}
 use borrow.Author.Tests.{eqb-true, ne_eqb}
 use lib.Dec.{eqb}
-use lib.ListN.{length, get_or}
+use lib.ListN.{length, get_or, take, drop}
 use Rattle.wire.specs.Number.{part}
-use Rattle.wire.proofs.Place.{length_part}
 use Rattle.packet.specs.Walk.{frames_from, size_at as size_in, walk_from}
 use Rattle.std.specs.Prelude.{None}
 use Rattle.window.specs.Window.{agreeing, size_at, start_of}
@@ -18,6 +17,7 @@ use Rattle.wire.proofs.Parts.{part_long}
 use Rattle.message.specs.Whole.{Whole}
 use Rattle.window_taking.specs.Taking.{bytes_at, differ_at, differ_from, is_some, offset_of}
 use Rattle.window_taking.specs.Keeping.{waiting_of, Neat, Framed, Passed}
+use Rattle.window.proofs.Agreeing.{lent}
 use Rattle.window_taking.proofs.Walks.{Goes, goes}
 use Rattle.window_taking.proofs.Windows.{place_free, place_used, waits_place, within_neat}
 
@@ -51,13 +51,7 @@ found : (b : Bool) (n : ℕ) → is_some (cond b none (some n)) ≡ not b
 found true n = refl
 found false n = refl
 
-module _ {w s : List ℕ} {next k at size : ℕ} (neat : Neat w next) (framed : Framed s at size) (near : k < next + 256) where
-  abbrev bytes : List ℕ
-  bytes = part s at size
-
-  long : length bytes ≡ size
-  long = length_part s at size framed.within
-
+module _ {w bytes : List ℕ} {next k : ℕ} (neat : Neat w next) (sound : Whole bytes) (near : k < next + 256) where
   nothing : waiting_of w next k ≡ none → false ≡ is_some (differ_at (waiting_of w next k) bytes)
   nothing e = sym (ap (λ (o : Option (List ℕ)). is_some (differ_at o bytes)) e)
 
@@ -84,15 +78,13 @@ module _ {w s : List ℕ} {next k at size : ℕ} (neat : Neat w next) (framed : 
       by_bytes : is_some (differ_at (waiting_of w next k) bytes) ≡ not (eqb (agreeing copy bytes) (length bytes))
       by_bytes = ap (λ (o : Option (List ℕ)). is_some (differ_at o bytes)) waits ∙ found (eqb (agreeing copy bytes) (length bytes)) (agreeing copy bytes)
 
-      pub sizes : (there ≡ size → ⊥) → true ≡ is_some (differ_at (waiting_of w next k) bytes)
+      pub sizes : (there ≡ length bytes → ⊥) → true ≡ is_some (differ_at (waiting_of w next k) bytes)
       sizes other =
-          sym (by_bytes ∙ ap not (ne_eqb (agreeing copy bytes) (length bytes) (λ h. other (sym (part_long w (start_of (k % 256)) there) ∙ same_size copy bytes whole framed.whole h ∙ long))))
+          sym (by_bytes ∙ ap not (ne_eqb (agreeing copy bytes) (length bytes) (λ h. other (sym (part_long w (start_of (k % 256)) there) ∙ same_size copy bytes whole sound h))))
 
-      pub compared : there ≡ size → {r : Bool} → r ≡ eqb (agreeing (part w (start_of (k % 256)) size) bytes) size → not r ≡ is_some (differ_at (waiting_of w next k) bytes)
+      pub compared : there ≡ length bytes → {r : Bool} → r ≡ eqb (agreeing (part w (start_of (k % 256)) (length bytes)) bytes) (length bytes) → not r ≡ is_some (differ_at (waiting_of w next k) bytes)
       compared e is =
-          ap not (is ∙ ap (λ (n : ℕ). eqb (agreeing (part w (start_of (k % 256)) n) bytes) size) (sym e))
-          ∙ ap (λ (n : ℕ). not (eqb (agreeing copy bytes) n)) (sym long)
-          ∙ sym by_bytes
+          ap not (is ∙ ap (λ (n : ℕ). eqb (agreeing (part w (start_of (k % 256)) n) bytes) (length bytes)) (sym e)) ∙ sym by_bytes
 
 -- the messages of a packet, one after the other
 module _ (waiting : ℕ → Option (List ℕ)) (k : ℕ) (frame : ℕ × ℕ) (frames : List (ℕ × ℕ)) (s : List ℕ) where
@@ -136,6 +128,13 @@ module _ {w s : List ℕ} {next first messages at k left : ℕ} (g : Seeking w s
     pub seek_framed : Framed s at size
     seek_framed = subst (Framed s at) (sym told) there.framed
 
+    -- as a slice lends it
+    pub seek_lent : take (at + size - at) (drop at s) ≡ part s at size
+    seek_lent = lent s at size seek_framed.within
+
+    pub seek_whole : Whole (take (at + size - at) (drop at s))
+    seek_whole = subst Whole (sym seek_lent) seek_framed.whole
+
     pub seek_near : k < next + 256
     seek_near = omega (arith, g.near)
 
@@ -148,9 +147,12 @@ module _ {w s : List ℕ} {next first messages at k left : ℕ} (g : Seeking w s
         ∙ ap (λ (l : List (ℕ × ℕ)). differ_from (waiting_of w next) k l s) there.frames
         ∙ ap (λ (n : ℕ). differ_from (waiting_of w next) k ((at, n) ∷ frames_from (left - 1) (at + n) s) s) (sym told)
 
-    module _ {r : Bool} (is : r ≡ is_some (differ_at (waiting_of w next k) (part s at size))) where
+    module _ {r : Bool} (is : r ≡ is_some (differ_at (waiting_of w next k) (take (at + size - at) (drop at s)))) where
+      here : r ≡ is_some (differ_at (waiting_of w next k) (part s at size))
+      here = is ∙ ap (λ (l : List ℕ). is_some (differ_at (waiting_of w next k) l)) seek_lent
+
       pub seek_here : r ≡ true → true ≡ is_some (differ_from (waiting_of w next) first (frames_from messages 12 s) s)
-      seek_here e = sym (ap is_some frames ∙ differ_here (waiting_of w next) k (at, size) (frames_from (left - 1) (at + size) s) s (sym is ∙ e))
+      seek_here e = sym (ap is_some frames ∙ differ_here (waiting_of w next) k (at, size) (frames_from (left - 1) (at + size) s) s (sym here ∙ e))
 
       pub seek_next : r ≡ false → {fewer : ℕ} → fewer ≡ left - 1 → Seeking w s next first messages (at + size) (k + 1) fewer
       seek_next e less =
@@ -159,5 +161,5 @@ module _ {w s : List ℕ} {next first messages at k left : ℕ} (g : Seeking w s
             neat = g.neat;
             walk = subst (λ (n : ℕ). walk_from (left - 1) (at + n) s ≡ None) (sym told) there.rest;
             near = omega (arith, g.near);
-            rest = frames ∙ differ_later (waiting_of w next) k (at, size) (frames_from (left - 1) (at + size) s) s (sym is ∙ e);
+            rest = frames ∙ differ_later (waiting_of w next) k (at, size) (frames_from (left - 1) (at + size) s) s (sym here ∙ e);
           })

@@ -9,7 +9,7 @@ use Prim.Native.Nat.{ℕ, ◌+◌, ◌-◌, ◌≤◌, ◌<◌}
 use native.Mathlib.Decide.{dec_lt, ℕ_discrete}
 use native.Mathlib.Omega.{arith}
 use lib.Dec.{ltb}
-use lib.ListN.{length}
+use lib.ListN.{length, take, drop}
 use Rattle.wire.specs.Number.{part}
 use Rattle.merge.specs.State.{Packet, State, copy_of, count_from, first_there, fresh_at, fresh_in, is_there, keep, kept_at, packet, single}
 use Rattle.merge.proofs.Clauses.{fresh-cons, fresh-none, fresh_small, keep-cons, keep-heartbeat, kept_new, kept_none, kept_old}
@@ -19,6 +19,7 @@ use Rattle.std.specs.Prelude.{None}
 use Rattle.message.specs.Whole.{Whole}
 use Rattle.window_taking.specs.Taking.{bytes_at}
 use Rattle.window_taking.specs.Keeping.{waiting_of, window_for, state_of, Neat, Framed, Passed}
+use Rattle.window.proofs.Agreeing.{lent}
 use Rattle.window_taking.proofs.Walks.{Goes, goes}
 use Rattle.window_taking.proofs.Windows.{Within, neat_for, waiting_for, within_neat}
 
@@ -99,17 +100,26 @@ module _ {w₀ w s : List ℕ} {next first messages at k left fresh size : ℕ} 
   pub framed : Framed s at size
   framed = subst (Framed s at) (sym told) there.framed
 
+  -- as a slice lends it
+  pub lent_here : take (at + size - at) (drop at s) ≡ part s at size
+  lent_here = lent s at size framed.within
+
+  pub whole_here : Whole (take (at + size - at) (drop at s))
+  whole_here = subst Whole (sym lent_here) framed.whole
+
   pub near : k < next + 256
   near = omega (arith, g.near)
 
-  pub one_small : {one : ℕ} → one ≡ fresh_in (state_of w next next) (single k (part s at size)) → one ≤ 1
-  one_small is = omega (arith, is, fresh_small (state_of w next next) k (part s at size))
+  pub one_small : {one : ℕ} → one ≡ fresh_in (state_of w next next) (single k (take (at + size - at) (drop at s))) → one ≤ 1
+  one_small is = omega (arith, is, fresh_small (state_of w next next) k (take (at + size - at) (drop at s)))
 
-  pub going_next : {after : List ℕ} {one : ℕ} → one ≡ fresh_in (state_of w next next) (single k (part s at size)) → after ≡ kept_window w next (single k (part s at size)) → {fewer : ℕ} → fewer ≡ left - 1 → Going w₀ after s next first messages (at + size) (k + 1) fewer (fresh + one)
+  pub going_next : {after : List ℕ} {one : ℕ} → one ≡ fresh_in (state_of w next next) (single k (take (at + size - at) (drop at s))) → after ≡ kept_window w next (single k (take (at + size - at) (drop at s))) → {fewer : ℕ} → fewer ≡ left - 1 → Going w₀ after s next first messages (at + size) (k + 1) fewer (fresh + one)
   unfolding keep
-  going_next {after} {one} ones is less =
+  going_next {after} {one} told_ones told_is less =
       let m : List ℕ = part s at size in
       let x : State (List ℕ) (Unit {0}) = state_of w next next in
+      let ones : one ≡ fresh_in x (single k m) = told_ones ∙ ap (λ (l : List ℕ). fresh_in x (single k l)) lent_here in
+      let is : after ≡ kept_window w next (single k m) = told_is ∙ ap (λ (l : List ℕ). kept_window w next (single k l)) lent_here in
       let y : State (List ℕ) (Unit {0}) = keep x (single k m) in
       let within : Within y.waiting next = within_keep (within_neat g.neat) k m near framed.whole in
       let holds : waiting_of after next ≡ y.waiting = ap (λ (l : List ℕ). waiting_of l next) is ∙ waiting_for within in

@@ -22,7 +22,7 @@ use Rattle.merge.proofs.Places.{held_place, keep_put, number_high, number_low, n
 use Rattle.window.specs.Window.{size_at, start_of, waits_at, window_of}
 use Rattle.window.proofs.Held.{Framed as Sized, Fine, keep_window, length_window, same-places, waits_window, with, with_other, with_same}
 use Rattle.message.specs.Whole.{Whole}
-use Rattle.window_taking.specs.Keeping.{waiting_of, window_for, state_of, Neat, Framed}
+use Rattle.window_taking.specs.Keeping.{waiting_of, window_for, state_of, Neat}
 
 pub same_window : (one other : ℕ → Option (List ℕ)) → ((i : ℕ) → i < 256 → one i ≡ other i) → window_of one ≡ window_of other
 unfolding window_of
@@ -106,12 +106,9 @@ unfolding waiting_of
 waits_place w next k lo hi = waiting_inside 256 (waits_at w) next k lo hi
 
 -- one message kept
-module _ {w s : List ℕ} {next k at size : ℕ} (neat : Neat w next) (framed : Framed s at size) (near : k < next + 256) where
+module _ {w m : List ℕ} {next k : ℕ} (neat : Neat w next) (sound : Whole m) (near : k < next + 256) where
   abbrev x : State (List ℕ) (Unit {0})
   x = state_of w next next
-
-  abbrev m : List ℕ
-  m = part s at size
 
   unchanged : ((j : ℕ) → kept_at x (single k m) j ≡ x.waiting j) → w ≡ window_for (keep x (single k m)).waiting next
   unfolding keep
@@ -159,5 +156,5 @@ module _ {w s : List ℕ} {next k at size : ℕ} (neat : Neat w next) (framed : 
         keep_put held k m from near agrees (record { there = with_same place (k % 256) (some m); others = λ j lo ne. with_other place (k % 256) (some m) j ne }) in
         is
         ∙ ap (λ (l : List ℕ). splice l (start_of (k % 256)) m) neat.same
-        ∙ keep_window place (fine within) (k % 256) i m empty (sized framed.whole)
+        ∙ keep_window place (fine within) (k % 256) i m empty (sized sound)
         ∙ same_window (with place (k % 256) (some m)) (λ j. kept_at x (single k m) (number_at 256 next j)) (λ j h. held_place after-put j h)

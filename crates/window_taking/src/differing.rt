@@ -1,31 +1,30 @@
 // Parts: test 10, a message that differs from the copy that waits under its number.
 ghost use Rattle.std.specs.Prelude.{◌≡◌, ◌+◌, ◌<◌};
-ghost use Rattle.wire.specs.Number.{part};
+ghost use Rattle.message.specs.Whole.{Whole};
 ghost use Rattle.packet.specs.Walk.{frames_from};
 ghost use Rattle.window_taking.specs.Taking.{differ_at, differ_from, is_some};
-ghost use Rattle.window_taking.specs.Keeping.{waiting_of, Neat, Framed, Passed};
+ghost use Rattle.window_taking.specs.Keeping.{waiting_of, Neat, Passed};
 
 use window::places;
 use window::places::Window;
 
-fn differs_at(window: &Window, next: u64, k: u64, s: &[u8], at: usize, size: usize) -> bool
+fn differs_at(window: &Window, next: u64, k: u64, message: &[u8]) -> bool
     requires neat { Neat window.now next }
-    requires framed { Framed s.now at size }
+    requires whole { Whole message.now }
     requires k_bound { k < next + 256 }
-    ensures { result ≡ is_some (differ_at (waiting_of window.now next k) (part s.now at size)) }
+    ensures { result ≡ is_some (differ_at (waiting_of window.now next k) message.now) }
 {
     if k < next {
         return false;
     }
     let place = (k % places::NUMBERS) as usize;
-    let there = places::size_at(window, place);
-    if there == 0 {
+    let Some(there) = places::size_at(window, place) else {
         return false;
-    }
-    if there != size {
+    };
+    if there != message.len() {
         return true;
     }
-    !places::agree(window, place, s, at, size)
+    !places::agree(window, place, message)
 }
 
 pub fn differs(window: &Window, next: u64, s: &[u8], first: u64, messages: u8) -> bool
@@ -36,7 +35,7 @@ pub fn differs(window: &Window, next: u64, s: &[u8], first: u64, messages: u8) -
     let mut at = packet::HEADER;
     for k in first..first + (messages as u64) {
         let size = wire::u16_at(s, at) as usize;
-        if differs_at(window, next, k, s, at, size) {
+        if differs_at(window, next, k, &s[at..at + size]) {
             return true;
         }
         at += size;

@@ -1,31 +1,31 @@
 // Parts: the messages of a packet that is taken, kept until their turn.
 ghost use Rattle.std.specs.Prelude.{◌≡◌, map, ◌+◌, ◌<◌};
-ghost use Rattle.wire.specs.Number.{part};
 ghost use Rattle.merge.specs.State.{fresh_in, keep as kept, packet, single};
+ghost use Rattle.message.specs.Whole.{Whole};
 ghost use Rattle.packet.specs.Walk.{frames_from};
 ghost use Rattle.window_taking.specs.Taking.{bytes_at};
-ghost use Rattle.window_taking.specs.Keeping.{state_of, window_for, Neat, Framed, Passed};
+ghost use Rattle.window_taking.specs.Keeping.{state_of, window_for, Neat, Passed};
 
 use window::places;
 use window::places::Window;
 
 // One message: below next it is passed over, and a copy that waits stays. The answer is how many numbers
 // now wait that did not before.
-fn keep_one(window: &mut Window, next: u64, k: u64, s: &[u8], at: usize, size: usize) -> u64
+fn keep_one(window: &mut Window, next: u64, k: u64, message: &[u8]) -> u64
     requires neat { Neat window.old next }
-    requires framed { Framed s.now at size }
+    requires whole { Whole message.now }
     requires k_bound { k < next + 256 }
-    ensures fresh { result ≡ fresh_in (state_of window.old next next) (single k (part s.now at size)) }
-    ensures kept { window.new ≡ window_for (kept (state_of window.old next next) (single k (part s.now at size))).waiting next }
+    ensures fresh { result ≡ fresh_in (state_of window.old next next) (single k message.now) }
+    ensures kept { window.new ≡ window_for (kept (state_of window.old next next) (single k message.now)).waiting next }
 {
     if k < next {
         return 0;
     }
     let place = (k % places::NUMBERS) as usize;
-    if places::size_at(window, place) != 0 {
+    if places::size_at(window, place).is_some() {
         return 0;
     }
-    places::keep(window, place, s, at, size);
+    places::keep(window, place, message);
     1
 }
 
@@ -40,7 +40,7 @@ pub fn keep_all(window: &mut Window, next: u64, s: &[u8], first: u64, messages: 
     let mut fresh: u64 = 0;
     for k in first..first + (messages as u64) {
         let size = wire::u16_at(s, at) as usize;
-        fresh += keep_one(window, next, k, s, at, size);
+        fresh += keep_one(window, next, k, &s[at..at + size]);
         at += size;
     }
     fresh

@@ -1,4 +1,4 @@
--- `==` of what the two slices lend.
+-- `==` of what the slice lends.
 -- Assumes nothing.
 use mathlib.Core.Path.{◌∙◌}
 use Prim.Native.Nat.{◌*◌}
@@ -7,4 +7,4 @@ use Rattle.window.proofs.Agreeing.{agree_lent}
 use Rattle.window.proofs.places.agree.Goals as goal
 
 pub returns : goal.returns
-returns c = c.eq.ensures ∙ agree_lent c.args.window.now (c.args.place * 128) c.args.s.now c.args.at c.args.size (omega (arith, c.requires, c.told-window)) c.requires.1.1
+returns c = c.eq.ensures ∙ agree_lent c.args.window.now (c.args.place * 128) c.args.message.now (omega (arith, c.requires, c.told-window))
