@@ -1,14 +1,12 @@
 -- What a listed type's number says.
 -- Assumes nothing.
-use Rattle.std.proofs.Common.{◌≡◌, ℕ, ◌<◌, ◌≤◌, refl, lit≤, subst, sym, ap, not, ◌+◌, ◌∙◌, eqb, eq-eqb, ne_eqb, true, false, Bool, arith}
+use Rattle.std.proofs.Common.{◌≡◌, ℕ, ◌<◌, ◌≤◌, refl, lit≤, subst, sym, ap, not, ◌+◌, ◌∙◌, eqb, eq-eqb, ne_eqb, true, false}
+use Rattle.std.proofs.lemmas.Bool.{true≢false}
 use Rattle.message.specs.Table.{payload_of, too_short}
 use Rattle.message.specs.Types.{type_number}
 use Rattle.message.specs.declared.types.Kind.{Kind}
 use Rattle.message.specs.declared.types.Kind.TheVariants.{Security, SpinStart, SpinEnd, TradingSession, Add, Update, Delete, Execution, Priced, Top, Trade, Imbalance}
 use Rattle.message.proofs.Cases.{room, Unopened}
-
-true-false : ◌≡◌ {A = Bool} true false → ⊥
-true-false e = let one : ◌≡◌ {A = ℕ} 0 1 = cc in omega arith
 
 -- it is one of the first 32
 pub small_number : (kind : Kind) → type_number kind < 32
@@ -27,7 +25,7 @@ small_number Imbalance = lit≤ tt
 
 -- no listed type has number 0
 pub some_number : (kind : Kind) → type_number kind ≡ 0 → ⊥
-some_number kind e = true-false (sym (eq-eqb _ _ e) ∙ other kind)
+some_number kind e = true≢false (sym (eq-eqb _ _ e) ∙ other kind)
   where
     other : (kind : Kind) → eqb (type_number kind) 0 ≡ false
     other Security = refl
@@ -51,7 +49,7 @@ not_listed n h last =
 
 -- a type that is not listed is not opened
 differs : (n k : ℕ) → payload_of n ≡ 255 → eqb (payload_of k) 255 ≡ false → n ≡ k → ⊥
-differs n k none listed e = true-false (sym (eq-eqb _ _ (subst (λ (m : ℕ). payload_of m ≡ 255) e none)) ∙ listed)
+differs n k none listed e = true≢false (sym (eq-eqb _ _ (subst (λ (m : ℕ). payload_of m ≡ 255) e none)) ∙ listed)
 
 pub not_opened : (n : ℕ) → payload_of n ≡ 255 → Unopened n
 unfolding payload_of
