@@ -12,4 +12,4 @@ returns c =
     let s = c.args.s.now in
     let third : at + 5 ≡ at + 1 + 4 = omega arith in
     let fourth : at + 19 ≡ at + 1 + 4 + 14 = omega arith in
-    λ i. record { side = c.u8_at.ensures i; quantity = c.u32_at.ensures i; symbol = (c.text_at.ensures ∙ ap (λ (n : ℕ). part s n 14) third) i; price = (c.u64_at.ensures ∙ ap (λ (n : ℕ). num (part s n 8)) fourth) i }
+    λ i. record { side = c.number_at.ensures i; quantity = c.number_at-2.ensures i; symbol = (c.text_at.ensures ∙ ap (λ (n : ℕ). part s n 14) third) i; price = (c.number_at-3.ensures ∙ ap (λ (n : ℕ). num (part s n 8)) fourth) i }

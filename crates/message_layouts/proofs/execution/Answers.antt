@@ -3,4 +3,4 @@
 use Rattle.message_layouts.proofs.execution.Goals as goal
 
 pub returns : goal.returns
-returns c = λ i. record { named = c.named.ensures i; executed = c.u32_at.ensures i; remaining = c.u32_at-2.ensures i; execution = c.u64_at.ensures i }
+returns c = λ i. record { named = c.named.ensures i; executed = c.number_at.ensures i; remaining = c.number_at-2.ensures i; execution = c.number_at-3.ensures i }

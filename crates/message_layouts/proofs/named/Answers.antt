@@ -3,4 +3,4 @@
 use Rattle.message_layouts.proofs.named.Goals as goal
 
 pub returns : goal.returns
-returns c = λ i. record { time = c.u32_at.ensures i; id = c.text_at.ensures i }
+returns c = λ i. record { time = c.number_at.ensures i; id = c.text_at.ensures i }

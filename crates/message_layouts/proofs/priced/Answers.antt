@@ -3,4 +3,4 @@
 use Rattle.message_layouts.proofs.priced.Goals as goal
 
 pub returns : goal.returns
-returns c = λ i. record { execution = c.execution.ensures i; price = c.u64_at.ensures i }
+returns c = λ i. record { execution = c.execution.ensures i; price = c.number_at.ensures i }

@@ -3,4 +3,4 @@
 use Rattle.message_layouts.proofs.quote.Goals as goal
 
 pub returns : goal.returns
-returns c = λ i. record { price = c.u64_at.ensures i; volume = c.u32_at.ensures i }
+returns c = λ i. record { price = c.number_at.ensures i; volume = c.number_at-2.ensures i }

@@ -3,4 +3,4 @@
 use Rattle.message_layouts.proofs.spin_start.Goals as goal
 
 pub returns : goal.returns
-returns c = λ i. record { spin = c.u8_at.ensures i; time = c.u64_at.ensures i; last = c.u32_at.ensures i }
+returns c = λ i. record { spin = c.number_at.ensures i; time = c.number_at-2.ensures i; last = c.number_at-3.ensures i }

@@ -3,4 +3,4 @@
 use Rattle.message_layouts.proofs.trade.Goals as goal
 
 pub returns : goal.returns
-returns c = λ i. record { time = c.u32_at.ensures i; deal = c.deal.ensures i; execution = c.u64_at.ensures i; reserved = c.u64_at-2.ensures i }
+returns c = λ i. record { time = c.number_at.ensures i; deal = c.deal.ensures i; execution = c.number_at-2.ensures i; reserved = c.number_at-3.ensures i }

@@ -3,4 +3,4 @@
 use Rattle.message_layouts.proofs.trading_session.Goals as goal
 
 pub returns : goal.returns
-returns c = λ i. record { time = c.u64_at.ensures i; session = c.u8_at.ensures i }
+returns c = λ i. record { time = c.number_at.ensures i; session = c.number_at-2.ensures i }

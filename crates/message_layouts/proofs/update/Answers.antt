@@ -3,4 +3,4 @@
 use Rattle.message_layouts.proofs.update.Goals as goal
 
 pub returns : goal.returns
-returns c = λ i. record { named = c.named.ensures i; quantity = c.u32_at.ensures i; price = c.u64_at.ensures i; flags = c.u16_at.ensures i }
+returns c = λ i. record { named = c.named.ensures i; quantity = c.number_at.ensures i; price = c.number_at-2.ensures i; flags = c.number_at-3.ensures i }
