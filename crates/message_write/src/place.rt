@@ -72,8 +72,8 @@ fn head(buf: &mut [u8], at: usize, size: u16, kind: u8)
     requires { at + width_of layouts.head ≤ length buf.old }
     ensures { buf.new ≡ put_row layouts.head (number_is size ∷ number_is kind ∷ []) buf.old at }
 {
-    wire::put_u16(buf, at, size);
-    wire::put_u8(buf, at + 2, kind);
+    wire::put_number(buf, at, size);
+    wire::put_number(buf, at + 2, kind);
 }
 
 // The call: every message, every buffer and every place have their answer. A text that the kind has

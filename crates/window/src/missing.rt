@@ -9,7 +9,7 @@ use crate::places::{NUMBERS, Window};
 fn is_missing(window: &Window, k: u64) -> bool
     ensures { result ≡ missing_in window.now k }
 {
-    places::size_at(window, (k % NUMBERS) as usize) == 0
+    places::size_at(window, (k % NUMBERS) as usize).is_none()
 }
 
 // The first number from a place on, below the limit, that is missing or is not, as wanted; else the limit.

@@ -18,10 +18,9 @@ fn differs_at(window: &Window, next: u64, k: u64, message: &[u8]) -> bool
         return false;
     }
     let place = (k % places::NUMBERS) as usize;
-    let there = places::size_at(window, place);
-    if there == 0 {
+    let Some(there) = places::size_at(window, place) else {
         return false;
-    }
+    };
     if there != message.len() {
         return true;
     }

@@ -22,7 +22,7 @@ fn keep_one(window: &mut Window, next: u64, k: u64, message: &[u8]) -> u64
         return 0;
     }
     let place = (k % places::NUMBERS) as usize;
-    if places::size_at(window, place) != 0 {
+    if places::size_at(window, place).is_some() {
         return 0;
     }
     places::keep(window, place, message);

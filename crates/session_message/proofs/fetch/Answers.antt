@@ -14,5 +14,5 @@ pub returns : goal.returns
 returns c =
     let a = c.args in
     c.copy_from_slice.ensures.after
-    ∙ lent a.window.now (a.place * 128) 128 (omega (arith, c.requires.0, c.told-window))
+    ∙ lent a.window.now (a.place * 128) 128 (omega (arith, c.requires, c.told-window))
     ∙ sym (text_window a.rest c.if-rest-ne0.false a.window.now a.text.now a.place)
