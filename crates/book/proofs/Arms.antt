@@ -33,7 +33,6 @@ use Rattle.message.proofs.Cases.{Unopened, unopened}
 use Rattle.book.specs.Lookup.{is_at, place_found}
 use Rattle.book.specs.Applying.{Seen, message_in, effect_of, execution_of, is_listed, unlisted_under}
 use Rattle.book.specs.declared.deciding.Effect.{Effect}
-use Rattle.book.specs.declared.tables.OpeningRule.{OpeningRule}
 use Rattle.book.specs.declared.deciding.Effect.TheVariants.{Put, Replace, Remove, Renew, Enter, Record, Unchanged, Fault}
 use Rattle.book.proofs.Types.{no}
 

@@ -2,7 +2,7 @@
 ghost use Rattle.std.specs.Prelude.{◌≡◌};
 ghost use Rattle.book.specs.Lookup.{front_of, back_of, Apart};
 
-// A symbol's first eight bytes, and its last eight.
+// A symbol's first eight bytes, and its last eight: two names for two calls of one function.
 pub fn front(symbol: [u8; 14]) -> u64
     ensures { result ≡ front_of symbol }
 {

@@ -103,9 +103,8 @@ fn top(bytes: &[u8], inside: Option<usize>, held: usize) -> Effect
     ensures { (seen : Seen) → seen.inside ≡ inside → seen.held ≡ held → result ≡ effect_of seen (fields_of 26 bytes.now) }
 {
     let fields = message_layouts::top(bytes);
-    let symbol = fields.symbol;
     let broken = message_rules::top(
-        symbol,
+        fields.symbol,
         fields.ask.price,
         fields.bid.price,
         fields.unsolicited,

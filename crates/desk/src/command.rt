@@ -43,7 +43,7 @@ pub fn command_of(line: &[u8]) -> Option<Command>
 }
 
 // The commands of one word.
-#[tactic(auto, unfolding(crate::specs::Commands::bare_command, crate::specs::Commands::named_of, crate::specs::Commands::is_name))]
+#[tactic(auto, using(crate::proofs::Commands::short_name, crate::proofs::Commands::long_name), unfolding(crate::specs::Commands::bare_command, crate::specs::Commands::named_of, crate::specs::Commands::is_name))]
 fn bare_command(word: &[u8]) -> Option<Command>
     ensures { result ≡ bare_command word.now }
 {
@@ -57,7 +57,7 @@ fn bare_command(word: &[u8]) -> Option<Command>
 }
 
 // Those of two.
-#[tactic(auto, unfolding(crate::specs::Commands::two_command, crate::specs::Commands::one_command, crate::specs::Commands::bytes_command, crate::specs::Commands::named_of, crate::specs::Commands::is_name))]
+#[tactic(auto, using(crate::proofs::Commands::short_name, crate::proofs::Commands::long_name), unfolding(crate::specs::Commands::two_command, crate::specs::Commands::one_command, crate::specs::Commands::bytes_command, crate::specs::Commands::named_of, crate::specs::Commands::is_name))]
 fn two_command(word: &[u8]) -> Option<Command>
     ensures { result ≡ two_command word.now }
 {
@@ -78,7 +78,7 @@ fn two_command(word: &[u8]) -> Option<Command>
 }
 
 // Those of three: an opening by a rule, and the best price of a side.
-#[tactic(auto, unfolding(crate::specs::Commands::three_command, crate::specs::Commands::named_of, crate::specs::Commands::is_name))]
+#[tactic(auto, using(crate::proofs::Commands::short_name, crate::proofs::Commands::long_name), unfolding(crate::specs::Commands::three_command, crate::specs::Commands::named_of, crate::specs::Commands::is_name))]
 fn three_command(word: &[u8]) -> Option<Command>
     ensures { result ≡ three_command word.now }
 {
@@ -90,7 +90,7 @@ fn three_command(word: &[u8]) -> Option<Command>
 }
 
 // Of four.
-#[tactic(auto, unfolding(crate::specs::Commands::four_command, crate::specs::Commands::named_of, crate::specs::Commands::is_name))]
+#[tactic(auto, using(crate::proofs::Commands::short_name, crate::proofs::Commands::long_name), unfolding(crate::specs::Commands::four_command, crate::specs::Commands::named_of, crate::specs::Commands::is_name))]
 fn four_command(word: &[u8]) -> Option<Command>
     ensures { result ≡ four_command word.now }
 {
@@ -101,7 +101,7 @@ fn four_command(word: &[u8]) -> Option<Command>
 }
 
 // Of seven.
-#[tactic(auto, unfolding(crate::specs::Commands::seven_command, crate::specs::Commands::named_of, crate::specs::Commands::is_name))]
+#[tactic(auto, using(crate::proofs::Commands::short_name, crate::proofs::Commands::long_name), unfolding(crate::specs::Commands::seven_command, crate::specs::Commands::named_of, crate::specs::Commands::is_name))]
 fn seven_command(word: &[u8]) -> Option<Command>
     ensures { result ≡ seven_command word.now }
 {

@@ -114,6 +114,7 @@ fn of_execution(buf: &mut [u8], at: usize, fields: ExecutionFields, terms: Terms
 }
 
 // The fields of a message by its kind, an arm each; of 28 and unlisted types there are none.
+#[tactic(auto, using(crate::proofs::ByKind::kind_room, crate::proofs::ByKind::kind_put, wire::proofs::Layouts::none_row), unfolding(message::specs::Layouts::layout_of))]
 pub fn fields(message: Message, buf: &mut [u8], at: usize)
     requires { at + width_of (layouts.layout_of (type_of message)) ≤ length buf.old }
     ensures { buf.new ≡ put_row (layouts.layout_of (type_of message)) (row_of message) buf.old at }

@@ -3,5 +3,5 @@
 use Rattle.capture.proofs.Strict.{opened_strictly}
 use Rattle.capture.proofs.open_at_first.Goals as goal
 
-pub returns : goal.returns
-returns c = opened_strictly _ c.reopen.ensures.opened c.reopen.ensures.rule
+pub returns-in-Some : goal.returns-in-Some
+returns-in-Some c = opened_strictly _ c.reopen.ensures.opened c.reopen.ensures.rule

@@ -9,3 +9,8 @@ loop-size-preserved g c =
     let call = c.take-answer.ensures in
     let before = c.loop-size.invariant in
     (taken_strictly _ before.0 call.taken call.rule, search rules)
+
+pub returns-in_err-packet-clause-strict : goal.returns-in_err-packet-clause-strict
+returns-in_err-packet-clause-strict g c =
+    let call = c.take-answer.ensures in
+    taken_strictly _ c.loop-size.invariant.0 call.taken call.rule

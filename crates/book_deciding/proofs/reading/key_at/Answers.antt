@@ -6,4 +6,4 @@ use Rattle.message.specs.declared.layouts.Named.{Named}
 use Rattle.book_deciding.proofs.reading.key_at.Goals as goal
 
 pub returns : goal.returns
-returns c = c.number.ensures ∙ ap (λ (f : Named). number_of f.id) c.named-fields.ensures
+returns c = c.number.ensures ∙ ap (λ (f : Named). number_of f.id) c.named.ensures
