@@ -113,7 +113,8 @@ pub fn jangsebit_inside(room: &Room, symbol: &[u8; 14], told: &mut [u64; 6]) -> 
     ensures refusal { result ≡ refusal_in (inside_for (insides_in room.now) symbol.now) }
     ensures told { told.new ≡ inside_told (inside_for (insides_in room.now) symbol.now) told.old }
 {
-    tell(told, session::asking::inside(room, *symbol).map(inside_numbers))
+    let answer = session::asking::inside(room, *symbol);
+    tell(told, answer.map(inside_numbers))
 }
 
 // The requests for all that is missing, into a buffer; told is how many. The answer is the refusal: 11 where the
@@ -124,7 +125,8 @@ pub fn jangsebit_requests(room: &Room, window: &Window, buf: &mut [u8], told: &m
     ensures buffer { buf.new ≡ buffer_after (gaps_of (line_in room.now window.now)) buf.old }
     ensures told { told.new ≡ number_told (asked_of (gaps_of (line_in room.now window.now)) (length buf.old)) told.old }
 {
-    tell(told, session::asking::requests(room, window, buf).map(count))
+    let asked = session::asking::requests(room, window, buf);
+    tell(told, asked.map(count))
 }
 
 // The first run of missing numbers from a number on: its start, and its count, 0 where there is none.

@@ -38,8 +38,8 @@ use refusals::{Refusal, number_in};
 use session::packets::most_due;
 use session::state::Session;
 use single::telling::tell;
-use taking::{due_of, tell_all};
 pub use sizes::jangsebit_sizes;
+use taking::{due_of, tell_all};
 use window::places::Window;
 
 // The version of these exports.
@@ -130,7 +130,8 @@ pub fn jangsebit_order(session: &Session, room: &Room, id: &[u8; 14], told: &mut
     ensures refusal { result ≡ refusal_in (order_asked (tables_in session.now room.now) id.now) }
     ensures told { told.new ≡ order_told (order_asked (tables_in session.now room.now) id.now) told.old }
 {
-    tell(told, asking::order(session, room, id).map(asking::order_numbers))
+    let answer = asking::order(session, room, id);
+    tell(told, answer.map(asking::order_numbers))
 }
 
 // The best prices of many symbols and sides, 15 bytes a question. Four numbers answer each: the refusal or 0, the

@@ -29,5 +29,9 @@ fn main(rt: HostRuntime) -> io::Result<()> {
     println!(rt; "next {}", asking::next(&room))?;
     println!(rt; "end {}", asking::end(&room))?;
     let mut requests = [0u8; 12];
-    told(&rt, "requests", asking::requests(&room, &window, &mut requests))
+    told(
+        &rt,
+        "requests",
+        asking::requests(&room, &window, &mut requests),
+    )
 }

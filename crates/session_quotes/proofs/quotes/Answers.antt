@@ -27,8 +27,8 @@ pub loop-k-preserved : goal.loop-k-preserved
 loop-k-preserved c =
     let a = c.args in
     let answer =
-        c.best-answer.ensures
-        ∙ ap (λ (symbol : List ℕ). best_for (take (live_in a.room.now) a.session.now.orders) symbol (get_or a.asked.now (15 * c.loop-k.k + 14) 0)) c.text_at-symbol.ensures in
+    c.best-answer.ensures
+    ∙ ap (λ (symbol : List ℕ). best_for (take (live_in a.room.now) a.session.now.orders) symbol (get_or a.asked.now (15 * c.loop-k.k + 14) 0)) c.text_at-symbol.ensures in
     standing_put _ _ _ c.loop-k.invariant (omega (arith, c.loop-k-test.true, c.if-replies-count.false)) (c.copy_from_slice.ensures.after ∙ c.numbers.ensures ∙ ap numbers_of answer)
 
 pub returns : goal.returns

@@ -7,6 +7,6 @@ use Rattle.exports.proofs.asking.jangsebit_inside.Goals as goal
 
 pub returns : goal.returns
 returns c =
-    let is : MatchResult c.inside.result (λ a. IsOkAnd c.map.result (λ l. l ≡ inside_numbers a)) (λ e. c.map.result ≡ Err e) = search rules in
-    let h = tells inside_numbers _ _ c.inside.ensures (λ a. sym c.told-told) is c.tell.ensures.refusal c.tell.ensures.told in
+    let is : MatchResult c.inside-answer.result (λ a. IsOkAnd c.map.result (λ l. l ≡ inside_numbers a)) (λ e. c.map.result ≡ Err e) = search rules in
+    let h = tells inside_numbers _ _ c.inside-answer.ensures (λ a. sym c.told-told) is c.tell.ensures.refusal c.tell.ensures.told in
     record { refusal = h.0; told = h.1 }
