@@ -21,7 +21,7 @@ pub fn framed(s: &[u8], at: usize) -> Frame
     requires { at + 2 ≤ length s.now }
     ensures { result ≡ frame_at false s.now at }
 {
-    let size = wire::u16_at(s, at) as usize;
+    let size = wire::number_at::<u16>(s, at) as usize;
     Frame {
         start: at + 2,
         size,
