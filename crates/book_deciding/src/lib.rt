@@ -80,7 +80,7 @@ pub fn change(bytes: &[u8], key: u64, order: Option<usize>, shares: u32, price: 
     requires { Keyed bytes.now key × (names (type_in bytes.now) ≡ true) }
     ensures { (seen : Seen) → seen.order ≡ order → seen.shares ≡ shares → seen.price ≡ price → result ≡ effect_of seen (message_in bytes.now) }
 {
-    let kind = Kind::try_from(wire::u8_at(bytes, 2)).unwrap();
+    let kind = Kind::try_from(wire::number_at::<u8>(bytes, 2)).unwrap();
     match kind {
         Kind::Update => update(bytes, key, order),
         Kind::Delete => delete(bytes, key, order),
@@ -136,7 +136,7 @@ pub fn tell(bytes: &[u8], inside: Option<usize>, held: usize, rule: OpeningRule)
     requires { Whole bytes.now × ((leb 21 (type_in bytes.now) && leb (type_in bytes.now) 25) ≡ false) }
     ensures { (seen : Seen) → seen.inside ≡ inside → seen.held ≡ held → seen.rule ≡ rule → result ≡ effect_of seen (message_in bytes.now) }
 {
-    let Ok(kind) = Kind::try_from(wire::u8_at(bytes, 2)) else {
+    let Ok(kind) = Kind::try_from(wire::number_at::<u8>(bytes, 2)) else {
         return unlisted(rule);
     };
     match kind {

@@ -24,7 +24,7 @@ fn told(room: &[u64], bytes: &[u8]) -> Option<usize>
     requires by_index { (next end : ℕ) × (b : Book) × Lies room.now next end b }
     ensures { (next end : ℕ) (b : Book) → Lies room.now next end b → result ≡ symbol_at (topic_of (message_in bytes.now)) (take b.held b.fronts) (take b.held b.backs) }
 {
-    if wire::u8_at(bytes, 2) != Kind::Top.number() {
+    if wire::number_at::<u8>(bytes, 2) != Kind::Top.number() {
         return None;
     }
     held_at(room, inside_of(bytes).symbol)

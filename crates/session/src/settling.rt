@@ -34,12 +34,11 @@ pub fn settle<'a>(
         return Outcome::Stores(order_of(bytes, name.key));
     }
     match change(room, bytes, name, there.shares, there.price, point.next - 1) {
-        Act::Replace(_, shares, price) => {
-            let mut order = there;
-            order.shares = shares;
-            order.price = price;
-            Outcome::Stores(order)
-        }
+        Act::Replace(_, shares, price) => Outcome::Stores(Order {
+            shares,
+            price,
+            ..there
+        }),
         Act::Remove(_, last) => Outcome::Moves { last },
         Act::Nothing => Outcome::Stores(there),
     }

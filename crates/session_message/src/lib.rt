@@ -11,6 +11,7 @@ use window::places::{PLACE, Window};
 
 // What is left to apply: how many messages straight from the packet at hand, and where the first of them
 // begins in the lent bytes; where none is left there, how many of those that wait are due.
+// Two numbers and no enum, which would be no plainer: what the engine keeps is said of both at once (window_taking's Ahead).
 #[derive(Clone, Copy)]
 pub struct PacketRest {
     pub left: usize,
@@ -37,7 +38,7 @@ pub fn size(window: &Window, s: &[u8], rest: PacketRest, place: usize) -> Option
     if rest.left == 0 {
         return size_due(window, place, rest.from);
     }
-    places::some_size(wire::u16_at(s, rest.from) as usize)
+    places::some_size(wire::number_at::<u16>(s, rest.from) as usize)
 }
 
 // What stands at a place of the window copied into `text`, before the place is made free.
@@ -48,8 +49,7 @@ pub fn fetch(text: &mut [u8; PLACE], window: &Window, rest: PacketRest, place: u
     if rest.left != 0 {
         return;
     }
-    let start = place * PLACE;
-    text.copy_from_slice(&window[start..start + PLACE]);
+    *text = wire::text_at(window, place * PLACE);
 }
 
 pub fn free(window: &mut Window, rest: PacketRest, place: usize)

@@ -25,7 +25,7 @@ pub fn size_at(window: &Window, place: usize) -> Option<usize>
     requires { place < 256 }
     ensures { result ≡ some_size (size_at window.now place) }
 {
-    some_size(wire::u16_at(window, place * PLACE) as usize)
+    some_size(wire::number_at::<u16>(window, place * PLACE) as usize)
 }
 
 // What waits at a place, of a message's size, is that message, byte for byte.

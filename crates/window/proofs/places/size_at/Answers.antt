@@ -6,4 +6,4 @@ use Rattle.window.proofs.places.size_at.Goals as goal
 
 pub returns : goal.returns
 unfolding size_at
-returns c = c.some_size.ensures ∙ ap some_size c.u16_at.ensures
+returns c = c.some_size.ensures ∙ ap some_size c.number_at.ensures
