@@ -33,7 +33,6 @@ use Rattle.message.proofs.Cases.{Unopened, unopened}
 use Rattle.book.specs.Lookup.{is_at, place_found}
 use Rattle.book.specs.Applying.{Seen, message_in, effect_of, execution_of, is_listed, unlisted_under}
 use Rattle.book.specs.declared.deciding.Effect.{Effect}
-use Rattle.book.specs.declared.tables.OpeningRule.{OpeningRule}
 use Rattle.book.specs.declared.deciding.Effect.TheVariants.{Put, Replace, Remove, Renew, Enter, Record, Unchanged, Fault}
 use Rattle.book.proofs.Types.{no}
 
@@ -121,17 +120,6 @@ module _ (s : List ℕ) (seen : Seen) where
   pub typed : (k : ℕ) {t : ℕ} {e : Effect} → t ≡ type_in s → t ≡ k → e ≡ effect_of seen (fields_of k s) → e ≡ effect_of seen (message_in s)
   typed k is e h = h ∙ ap (λ (j : ℕ). effect_of seen (fields_of j s)) (sym e ∙ is)
 
-  -- a type that is not in the table, one that names no order and is none of the others
-  abbrev Others : ℕ → Type 0
-  Others t = (((((((Unit {0} × (t ≡ 20 → ⊥)) × (t ≡ 26 → ⊥)) × (t ≡ 27 → ⊥)) × (t ≡ 9 → ⊥)) × (t ≡ 11 → ⊥)) × (t ≡ 12 → ⊥)) × (t ≡ 28 → ⊥))
-
-  apart : (t : ℕ) → (leb 21 t && leb t 25) ≡ false → Others t → Unopened t
-  apart t out h =
-      (((((((((((tt, h.0.0.0.1), h.0.0.1), h.0.1), h.0.0.0.0.0.0.1), aside 21 refl), aside 22 refl), aside 23 refl), aside 24 refl), aside 25 refl), h.0.0.0.0.0.1), h.0.0.0.0.1)
-    where
-      aside : (k : ℕ) → (leb 21 k && leb k 25) ≡ true → t ≢ k
-      aside k within e = no (sym out ∙ ap (λ (j : ℕ). leb 21 j && leb j 25) e ∙ within)
-
   -- no such type names an order
   unnamed : (low t : ℕ) → 22 ≤ low → Unopened t → (leb low t && leb t 25) ≡ false
   unnamed low t from h = by (leb low t && leb t 25) refl
@@ -160,7 +148,3 @@ module _ (s : List ℕ) (seen : Seen) where
     where
       aside : (k : ℕ) → is_listed k ≡ true → t ≢ k
       aside k listed e = no (sym out ∙ ap is_listed e ∙ listed)
-
-  pub unlisted : {t : ℕ} {rule : OpeningRule} {r : Effect} → t ≡ type_in s → (leb 21 (type_in s) && leb (type_in s) 25) ≡ false → Others t → seen.rule ≡ rule → r ≡ unlisted_under rule → r ≡ effect_of seen (message_in s)
-  unlisted {t} is out h under does =
-      does ∙ ap unlisted_under (sym under) ∙ typed t is refl (unlisted_at t (apart t (ap (λ (j : ℕ). leb 21 j && leb j 25) is ∙ out) h) h.1)

@@ -151,13 +151,6 @@ module _ (s : List ℕ) {t : ℕ} (is : t ≡ type_in s) where
       let high = (in_range 22 25 k named).1 in
       record { room = opened k e listed keyed.whole.enough; value = opened_id (omega arith) (omega arith) keyed.value }
 
-  pub last_named : names (type_in s) ≡ true → t ≢ 22 → t ≢ 23 → t ≢ 24 → t ≡ 25
-  unfolding between
-  last_named named n22 n23 n24 =
-      let low = (in_range 22 25 (type_in s) named).0 in
-      let high = (in_range 22 25 (type_in s) named).1 in
-      omega arith
-
 -- ---- what a caller knows of a message by its type alone
 
 module _ (s : List ℕ) where

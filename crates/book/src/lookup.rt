@@ -2,17 +2,17 @@
 ghost use Rattle.std.specs.Prelude.{◌≡◌};
 ghost use Rattle.book.specs.Lookup.{front_of, back_of, Apart};
 
-// A symbol's first eight bytes, and its last eight.
+// A symbol's first eight bytes, and its last eight: two names for two calls of one function.
 pub fn front(symbol: [u8; 14]) -> u64
     ensures { result ≡ front_of symbol }
 {
-    wire::u64_at(&symbol, 0)
+    wire::number_at(&symbol, 0)
 }
 
 pub fn back(symbol: [u8; 14]) -> u64
     ensures { result ≡ back_of symbol }
 {
-    wire::u64_at(&symbol, 6)
+    wire::number_at(&symbol, 6)
 }
 
 // A symbol's first eight bytes, the next four and the last two. They share no byte, so each is one load.
@@ -28,9 +28,9 @@ impl From<[u8; 14]> for Parts {
 
     fn from(symbol: [u8; 14]) -> Self {
         Parts {
-            first: wire::u64_at(&symbol, 0),
-            middle: wire::u32_at(&symbol, 8),
-            last: wire::u16_at(&symbol, 12),
+            first: wire::number_at(&symbol, 0),
+            middle: wire::number_at(&symbol, 8),
+            last: wire::number_at(&symbol, 12),
         }
     }
 }

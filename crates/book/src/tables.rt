@@ -48,7 +48,8 @@ pub const ORDERS: usize = book_index::PLACES;
 
 pub const INSIDES: usize = book_index::PAIRS;
 
-// Parts: what a place holds that is not used.
+// Parts: what a place holds that is not used. A derived Default says of the bytes of an array one by one that each is 0:
+// every caller would have to join them again to the equation that these promise.
 pub fn no_order() -> Order
     ensures { result ≡ no_order }
 {

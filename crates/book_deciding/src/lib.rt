@@ -12,6 +12,7 @@ use book::deciding::{Effect, Reason};
 use book::tables::OpeningRule;
 use book_judging::{added, deleted, executed, kept, shown, updated};
 use fields::parts::is_value;
+use message::Kind;
 
 pub mod reading;
 
@@ -22,7 +23,7 @@ pub fn add(bytes: &[u8], key: u64, order: Option<usize>, live: usize) -> Effect
 {
     let fields = message_layouts::add(bytes);
     let broken = message_rules::add(is_value(key), &fields.deal, fields.unsolicited);
-    added(broken == 0, order, live)
+    added(broken.is_none(), order, live)
 }
 
 fn update(bytes: &[u8], key: u64, order: Option<usize>) -> Effect
@@ -31,7 +32,7 @@ fn update(bytes: &[u8], key: u64, order: Option<usize>) -> Effect
 {
     let fields = message_layouts::update(bytes);
     let broken = message_rules::update(is_value(key), fields.quantity, fields.price);
-    updated(broken == 0, order, fields.quantity, fields.price)
+    updated(broken.is_none(), order, fields.quantity, fields.price)
 }
 
 fn delete(bytes: &[u8], key: u64, order: Option<usize>) -> Effect
@@ -39,7 +40,7 @@ fn delete(bytes: &[u8], key: u64, order: Option<usize>) -> Effect
     ensures { (seen : Seen) → seen.order ≡ order → result ≡ effect_of seen (fields_of 23 bytes.now) }
 {
     let broken = message_rules::delete(is_value(key));
-    deleted(broken == 0, order)
+    deleted(broken.is_none(), order)
 }
 
 fn execution(bytes: &[u8], key: u64, order: Option<usize>, shares: u32, price: u64) -> Effect
@@ -49,7 +50,7 @@ fn execution(bytes: &[u8], key: u64, order: Option<usize>, shares: u32, price: u
     let fields = message_layouts::execution(bytes);
     let broken = message_rules::execution(is_value(key), fields.executed);
     executed(
-        broken == 0,
+        broken.is_none(),
         order,
         shares,
         price,
@@ -65,7 +66,7 @@ fn priced(bytes: &[u8], key: u64, order: Option<usize>, shares: u32, price: u64)
     let fields = message_layouts::priced(bytes);
     let broken = message_rules::priced(is_value(key), fields.execution.executed, fields.price);
     executed(
-        broken == 0,
+        broken.is_none(),
         order,
         shares,
         price,
@@ -79,11 +80,11 @@ pub fn change(bytes: &[u8], key: u64, order: Option<usize>, shares: u32, price: 
     requires { Keyed bytes.now key × (names (type_in bytes.now) ≡ true) }
     ensures { (seen : Seen) → seen.order ≡ order → seen.shares ≡ shares → seen.price ≡ price → result ≡ effect_of seen (message_in bytes.now) }
 {
-    let kind = wire::u8_at(bytes, 2);
+    let kind = Kind::try_from(wire::number_at::<u8>(bytes, 2)).unwrap();
     match kind {
-        22 => update(bytes, key, order),
-        23 => delete(bytes, key, order),
-        24 => execution(bytes, key, order, shares, price),
+        Kind::Update => update(bytes, key, order),
+        Kind::Delete => delete(bytes, key, order),
+        Kind::Execution => execution(bytes, key, order, shares, price),
         _ => priced(bytes, key, order, shares, price),
     }
 }
@@ -94,7 +95,7 @@ fn session(bytes: &[u8]) -> Effect
 {
     let fields = message_layouts::trading_session(bytes);
     let broken = message_rules::trading_session(fields.session);
-    kept(broken == 0, Effect::Record(fields.session))
+    kept(broken.is_none(), Effect::Record(fields.session))
 }
 
 fn top(bytes: &[u8], inside: Option<usize>, held: usize) -> Effect
@@ -102,14 +103,13 @@ fn top(bytes: &[u8], inside: Option<usize>, held: usize) -> Effect
     ensures { (seen : Seen) → seen.inside ≡ inside → seen.held ≡ held → result ≡ effect_of seen (fields_of 26 bytes.now) }
 {
     let fields = message_layouts::top(bytes);
-    let symbol = fields.symbol;
     let broken = message_rules::top(
-        symbol,
+        fields.symbol,
         fields.ask.price,
         fields.bid.price,
         fields.unsolicited,
     );
-    shown(broken == 0, inside, held)
+    shown(broken.is_none(), inside, held)
 }
 
 fn trade(bytes: &[u8]) -> Effect
@@ -118,7 +118,7 @@ fn trade(bytes: &[u8]) -> Effect
 {
     let fields = message_layouts::trade(bytes);
     let broken = message_rules::trade(&fields.deal);
-    kept(broken == 0, Effect::Unchanged)
+    kept(broken.is_none(), Effect::Unchanged)
 }
 
 // A type that is not in the table.
@@ -136,15 +136,13 @@ pub fn tell(bytes: &[u8], inside: Option<usize>, held: usize, rule: OpeningRule)
     requires { Whole bytes.now × ((leb 21 (type_in bytes.now) && leb (type_in bytes.now) 25) ≡ false) }
     ensures { (seen : Seen) → seen.inside ≡ inside → seen.held ≡ held → seen.rule ≡ rule → result ≡ effect_of seen (message_in bytes.now) }
 {
-    let kind = wire::u8_at(bytes, 2);
+    let Ok(kind) = Kind::try_from(wire::number_at::<u8>(bytes, 2)) else {
+        return unlisted(rule);
+    };
     match kind {
-        20 => session(bytes),
-        26 => top(bytes, inside, held),
-        27 => trade(bytes),
-        9 => Effect::Unchanged,
-        11 => Effect::Unchanged,
-        12 => Effect::Unchanged,
-        28 => Effect::Unchanged,
-        _ => unlisted(rule),
+        Kind::TradingSession => session(bytes),
+        Kind::Top => top(bytes, inside, held),
+        Kind::Trade => trade(bytes),
+        _ => Effect::Unchanged,
     }
 }

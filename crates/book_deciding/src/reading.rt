@@ -13,9 +13,7 @@ pub fn key_at(bytes: &[u8]) -> u64
     requires { 21 ≤ length bytes.now }
     ensures { result ≡ number_of (part bytes.now 7 14) }
 {
-    let fields = message_layouts::named(bytes);
-    let id = fields.id;
-    number(id)
+    number(message_layouts::named(bytes).id)
 }
 
 // The order that an Add makes.

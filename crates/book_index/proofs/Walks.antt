@@ -1,6 +1,6 @@
 -- A walk along a chain: where it stands, where it ends, and that the places fall.
 -- Assumes nothing.
-use mathlib.Core.Path.{◌≡◌, refl, sym, ap, ◌∙◌}
+use mathlib.Core.Path.{◌≡◌, refl, sym, ap, subst, ◌∙◌}
 use mathlib.Core.Logic.{◌≢◌}
 use Rattle.std.specs.Prelude.{Some, None}
 use mathlib.Core.List.{List, [], ◌∷◌, map}
@@ -22,6 +22,16 @@ chain_in (x ∷ xs) (suc p) h = chain_in xs p (omega arith)
 pub chain_out : (ids : List ℕ) (p : ℕ) → length ids ≤ p → get_or (map chain_of ids) p 509 ≡ 509
 chain_out ids p h = get_or-eq_default (map chain_of ids) 509 (rw length-map h)
 
+-- ---- the place that a cell names
+
+named : (n : ℕ) {place : ℕ} → Some place ≡ place_of n → n ≡ suc place
+named zero e = cc
+named (suc n) e = cc
+
+ended : (n : ℕ) → None ≡ place_of n → n ≡ 0
+ended zero e = refl
+ended (suc n) e = cc
+
 -- ---- to the nearest cell behind a place
 
 -- a cell of the chain behind the place
@@ -40,18 +50,32 @@ module _ (index chains : List ℕ) (key place cell : ℕ) (is : index ≡ index_
     held : Highest (chain_at chains) (chain_of key) cell (get_or index cell 0)
     held = reading chains (chain_of key) cell is w.within w.on (chain_below key)
 
-    pub near_most : get_or index cell 0 ≤ cell
-    near_most = held.most
+    near : get_or index cell 0 ≤ place + 1 → Behind chains (chain_of key) place cell
+    near h = record { past = w.past; on = w.on; free = λ c l m. held.free c (omega arith) m }
 
-    pub near_end : get_or index cell 0 ≤ place + 1 → Behind chains (chain_of key) place cell
-    near_end h =
-        record { past = w.past; on = w.on; free = λ c l m. held.free c (omega arith) m }
+    pub near_last : None ≡ place_of (get_or index cell 0) → Behind chains (chain_of key) place cell
+    near_last e = near (omega (arith, ended (get_or index cell 0) e))
 
-    pub near_on : place + 1 < get_or index cell 0 → Nearing chains (chain_of key) place (get_or index cell 0 - 1)
-    near_on h =
-        let most = near_most in
-        let within : cell < 765 = w.within in
-        record { within = omega arith; past = omega arith; on = held.there (omega arith) }
+    module _ {after : ℕ} (e : Some after ≡ place_of (get_or index cell 0)) where
+      is_after : get_or index cell 0 ≡ suc after
+      is_after = named (get_or index cell 0) e
+
+      pub near_falls : after < cell
+      near_falls = omega (arith, is_after, held.most)
+
+      pub near_end : after ≤ place → Behind chains (chain_of key) place cell
+      near_end h = near (omega (arith, is_after))
+
+      pub near_on : place < after → Nearing chains (chain_of key) place after
+      near_on h =
+          let fall = near_falls in
+          let within : cell < 765 = w.within in
+          let back : get_or index cell 0 - 1 ≡ after = omega (arith, is_after) in
+          record {
+            within = omega arith;
+            past = h;
+            on = subst (λ (c : ℕ). chain_at chains c ≡ chain_of key) back (held.there (omega (arith, is_after)));
+          }
 
 -- ---- to a key
 
@@ -96,35 +120,43 @@ module _ {index ids : List ℕ} {n key : ℕ} {f : ℕ → ℕ} {v : ℕ} (x : S
         (λ q. read.free p l q (chain_live p m e))
         (λ q. w.free p q m e)
 
-    pub seek_none : at ≡ 0 → below f v n ≡ 0
+    pub seek_none : None ≡ place_of at → below f v n ≡ 0
     seek_none e =
+        let zero : at ≡ 0 = ended at e in
         only f v (record { most = omega arith; there = λ l. absurd (omega arith); free = λ p l. none_from p (omega arith) })
 
-    pub seek_falls : at ≢ 0 → at - 1 < cell
-    seek_falls h = let most : at ≤ cell = read.most in omega arith
+    module _ {place : ℕ} (e : Some place ≡ place_of at) where
+      is_next : at ≡ suc place
+      is_next = named at e
 
-    pub seek_live : at ≢ 0 → at - 1 < n
-    seek_live h =
-        let on : chain_at (map chain_of ids) (at - 1) ≡ chain_of key = read.there (omega arith) in
-        let low : at - 1 < 256 = lower (map chain_of ids) (at - 1) cell (seek_falls h) (on ∙ sym w.on) in
-        let l = inside (map chain_of ids) (chain_of key) (at - 1) (chain_below key) (sym (of_place (map chain_of ids) (at - 1) low) ∙ on) in
-        omega (arith, length-map ids chain_of, x.count)
+      on_chain : chain_at (map chain_of ids) place ≡ chain_of key
+      on_chain =
+          let back : at - 1 ≡ place = omega (arith, is_next) in
+          subst (λ (p : ℕ). chain_at (map chain_of ids) p ≡ chain_of key) back (read.there (omega (arith, is_next)))
 
-    pub seek_found : at ≢ 0 → f (at - 1) ≡ v → below f v n ≡ suc (at - 1)
-    seek_found h e =
-        let l = seek_live h in
-        let back : suc (at - 1) ≡ at = omega arith in
-        rw back (only f v (record { most = omega arith; there = λ q. e; free = none_from }))
+      pub seek_falls : place < cell
+      seek_falls = omega (arith, is_next, read.most)
 
-    pub seek_on : at ≢ 0 → f (at - 1) ≢ v → Seeking ids n key f v (at - 1)
-    seek_on h e =
-        let fall = seek_falls h in
-        let within : cell < 765 = w.within in
-        record {
-          within = omega arith;
-          on = read.there (omega arith);
-          free = λ p l m. order p at (λ q. let z : p ≡ at - 1 = omega arith in rw z e) (λ q. none_from p q m);
-        }
+      pub seek_live : place < n
+      seek_live =
+          let low : place < 256 = lower (map chain_of ids) place cell seek_falls (on_chain ∙ sym w.on) in
+          let l = inside (map chain_of ids) (chain_of key) place (chain_below key) (sym (of_place (map chain_of ids) place low) ∙ on_chain) in
+          omega (arith, length-map ids chain_of, x.count)
+
+      pub seek_found : f place ≡ v → below f v n ≡ suc place
+      seek_found h =
+          let l = seek_live in
+          only f v (record { most = omega arith; there = λ q. let same : suc place - 1 ≡ place = omega arith in rw same h; free = λ p q. none_from p (omega (arith, is_next)) })
+
+      pub seek_on : f place ≢ v → Seeking ids n key f v place
+      seek_on h =
+          let fall = seek_falls in
+          let within : cell < 765 = w.within in
+          record {
+            within = omega arith;
+            on = on_chain;
+            free = λ p l m. order p at (λ q. let z : p ≡ place = omega (arith, is_next) in rw z h) (λ q. none_from p q m);
+          }
 
 -- an order is sought by its key
 module _ (index keys : List ℕ) (live key : ℕ) (x : Indexed index keys live) where

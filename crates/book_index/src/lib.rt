@@ -10,8 +10,8 @@
 // lengths the contracts' rules give.
 #![tactic(auto)]
 
-ghost use Rattle.std.specs.Prelude.{◌≡◌, List, [], ◌∷◌, ◌++◌, ℕ, ◌+◌, ◌<◌, set};
-ghost use Rattle.book_index.specs.Chains.{chain_of, index_by, index_of, Indexed, IsLast};
+ghost use Rattle.std.specs.Prelude.{◌≡◌, List, [], ◌∷◌, ◌++◌, ℕ, ◌+◌, ◌<◌, length, get_or, set};
+ghost use Rattle.book_index.specs.Chains.{chain_of, index_by, index_of, place_of, Indexed, IsLast};
 ghost use Rattle.book_index.specs.Changes.{without, Open, Leaving, On, Last, Off, Behind};
 ghost use Rattle.book_index.specs.Pairs.{Paired, IsPair};
 
@@ -32,26 +32,33 @@ fn head(key: u64) -> usize
     PLACES + (key % CHAINS) as usize
 }
 
+// The place that a cell names, the next one of its chain.
+fn next(index: &[u64], cell: usize) -> Option<usize>
+    requires { cell < length index.now }
+    ensures { result ≡ place_of (get_or index.now cell 0) }
+{
+    match index[cell] as usize {
+        0 => None,
+        at => Some(at - 1),
+    }
+}
+
 // The place of a live key.
 pub fn find<'a>(index: &'a [u64], keys: &'a [u64], live: usize, key: u64) -> Option<usize>
     requires { Indexed index.now keys.now live }
     ensures { IsLast key keys.now live result }
 {
     let mut cell = head(key);
-    loop {
-        let at = index[cell] as usize;
-        if at == 0 {
-            return None;
+    while let Some(place) = next(index, cell) {
+        if keys[place] == key {
+            return Some(place);
         }
-        cell = at - 1;
-        if keys[cell] == key {
-            return Some(cell);
-        }
+        cell = place;
     }
+    None
 }
 
-// The place of a symbol's inside. Symbols that begin alike are on one
-// chain, so both numbers are compared.
+// The place of a symbol's inside. Symbols that begin alike are on one chain, so both numbers are compared.
 pub fn pair<'a>(
     index: &'a [u64],
     fronts: &'a [u64],
@@ -64,18 +71,13 @@ pub fn pair<'a>(
     ensures { IsPair first last fronts.now backs.now held result }
 {
     let mut cell = head(first);
-    loop {
-        let at = index[cell] as usize;
-        if at == 0 {
-            return None;
+    while let Some(place) = next(index, cell) {
+        if fronts[place] == first && backs[place] == last {
+            return Some(place);
         }
-        cell = at - 1;
-        if fronts[cell] == first {
-            if backs[cell] == last {
-                return Some(cell);
-            }
-        }
+        cell = place;
     }
+    None
 }
 
 // A key comes, at the place behind the live ones.
@@ -95,13 +97,13 @@ fn behind(index: &[u64], key: u64, place: usize) -> usize
     ensures { (result < 765) × ((chains : List ℕ) → index.now ≡ index_by chains → Behind chains (chain_of key) place result) }
 {
     let mut cell = head(key);
-    loop {
-        let at = index[cell] as usize;
-        if at <= place + 1 {
+    while let Some(after) = next(index, cell) {
+        if after <= place {
             return cell;
         }
-        cell = at - 1;
+        cell = after;
     }
+    cell
 }
 
 // The last place leaves its chain, whose head points at it.

@@ -27,7 +27,7 @@ pub fn added(good: bool, order: Option<usize>, live: usize) -> Effect
     if !good {
         return Effect::Fault(Reason::RuleBroken);
     }
-    if let Some(_) = order {
+    if order.is_some() {
         return Effect::Fault(Reason::AlreadyLive);
     }
     if ORDERS <= live {

@@ -3,11 +3,8 @@
 use mathlib.Core.Path.{◌≡◌, refl, ap, ◌∙◌, sym}
 use mathlib.Core.Bool.{Bool, true, false, ◌&&◌}
 use mathlib.Core.List.{List}
-use mathlib.Core.Logic.{by_cases}
 use Prim.Native.Nat.{ℕ}
-use native.Mathlib.Decide.{dec_lt}
-use native.Mathlib.Omega.{arith}
-use borrow.Author.Tests.{eqb-true, leb-true}
+use borrow.Author.Tests.{eqb-true}
 use lib.Dec.{eqb, leb}
 use lib.ListN.{get_or, take}
 use Rattle.std.specs.Prelude.{Option}
@@ -15,10 +12,8 @@ use Rattle.wire.specs.Number.{part}
 use Rattle.fields.specs.Id.{number_of}
 use Rattle.message.specs.Layouts.{type_in}
 use Rattle.message.specs.Row.{fields_of, type_of}
-use Rattle.message.specs.Table.{payload_of}
 use Rattle.message.specs.Whole.{Whole}
 use Rattle.message.specs.declared.kinds.Message.{Message}
-use Rattle.fields.proofs.Tests.{and_left, and_right}
 use Rattle.book.specs.Applying.{Seen, apply_of, change_of, effect_of, inside_of, is_listed, message_in, names, seen_of, topic_of}
 use Rattle.book.specs.Lookup.{is_at, key_at, place_found, symbol_at}
 use Rattle.book.specs.Named.{is_fault}
@@ -32,6 +27,7 @@ use Rattle.book.specs.declared.tables.OpeningRule.{OpeningRule}
 use Rattle.book.proofs.Steps.{Decided, seen-is, unchanged_done}
 use Rattle.book.proofs.Told.{Change, by_faults, tells, unfaulted}
 use Rattle.book.proofs.Types.{add_id, no, pick, top_topic, type_kept}
+use Rattle.book_deciding.proofs.Listing.{named-listed}
 use Rattle.book_room.specs.Arms.{named_in}
 use Rattle.book_room.specs.declared.changing.Name.{Name}
 
@@ -111,16 +107,6 @@ module _ {b : Book} (s : List ℕ) (kept : Kept b) where
       }
 
 -- ---- what is left over
-
--- a type that names an order is in the table
-named-listed : (t : ℕ) → names t ≡ true → is_listed t ≡ true
-unfolding payload_of
-named-listed t named =
-    let lo = leb-true 22 t (and_left (leb 22 t) (leb t 25) named) in
-    let hi = leb-true t 25 (and_right (leb 22 t) (leb t 25) named) in
-    by_cases (dec_lt t 23) (λ l. let e : t ≡ 22 = omega arith in rw e refl)
-    λ a. by_cases (dec_lt t 24) (λ l. let e : t ≡ 23 = omega arith in rw e refl)
-    λ b. by_cases (dec_lt t 25) (λ l. let e : t ≡ 24 = omega arith in rw e refl) (λ c. let e : t ≡ 25 = omega arith in rw e refl)
 
 -- an Add that is no fault puts its order
 no_fault : (e : Effect) → ((reason : Reason) → e ≡ Fault reason → ⊥) → is_fault e ≡ false

@@ -1,4 +1,7 @@
 // Where each thing lies in the room of numbers (specs/Room.antt).
+//
+// The room is lent by the host as it is (C), and each function says of it that `Lies` holds for a book: a struct round it with
+// that as a ghost field would not stand, since between two writes of one message no book lies there (`Filled`, `Gone`, `Free`).
 use book::tables::{INSIDES, ORDERS};
 use book_index::CELLS;
 

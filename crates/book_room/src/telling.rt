@@ -16,6 +16,7 @@ use book::deciding::Effect;
 use book::lookup::{back, front};
 use book::tables::Inside;
 use book_deciding::reading::inside_of;
+use message::Kind;
 
 // Where the inside that a message tells of is held; a Top of Book alone tells of one.
 fn told(room: &[u64], bytes: &[u8]) -> Option<usize>
@@ -23,13 +24,10 @@ fn told(room: &[u64], bytes: &[u8]) -> Option<usize>
     requires by_index { (next end : ℕ) × (b : Book) × Lies room.now next end b }
     ensures { (next end : ℕ) (b : Book) → Lies room.now next end b → result ≡ symbol_at (topic_of (message_in bytes.now)) (take b.held b.fronts) (take b.held b.backs) }
 {
-    let kind = wire::u8_at(bytes, 2);
-    if kind != 26 {
+    if wire::number_at::<u8>(bytes, 2) != Kind::Top.number() {
         return None;
     }
-    let told = inside_of(bytes);
-    let symbol = told.symbol;
-    held_at(room, symbol)
+    held_at(room, inside_of(bytes).symbol)
 }
 
 // An inside's six numbers at its place.

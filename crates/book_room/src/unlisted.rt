@@ -11,10 +11,10 @@ pub fn rule_in(room: &[u64]) -> OpeningRule
     requires { 8 < length room.now }
     ensures { result ≡ rule_by (get_or room.now 8 0) }
 {
-    if room[RULE] == 1 {
-        return OpeningRule::Strict;
+    match room[RULE] {
+        1 => OpeningRule::Strict,
+        _ => OpeningRule::Default,
     }
-    OpeningRule::Default
 }
 
 // One more that is no fault.

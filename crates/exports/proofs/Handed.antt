@@ -8,7 +8,7 @@ use native.Mathlib.Omega.{arith}
 use borrow.Author.Tests.{le-ltb}
 use lib.Dec.{eqb, leb, ltb}
 use lib.ListN.{length}
-use Rattle.std.specs.Prelude.{Result}
+use Rattle.std.specs.Prelude.{Option, Some, None, Result}
 use Rattle.refusals.specs.declared.Refusal.{Refusal}
 use Rattle.wire.specs.Number.{splice}
 use Rattle.wire.proofs.Place.{splice-none}
@@ -17,7 +17,7 @@ use Rattle.window_taking.specs.Turns.{end_from, packets_from, packets_in}
 use Rattle.session.specs.Meaning.{Held, Meaning, feed, overnight, rep}
 use Rattle.session.specs.Bursts.{count_if, rows_of}
 use Rattle.session.proofs.Calls.{chosen, one_packet, short}
-use Rattle.exports.specs.Handed.{answers_by, bytes_by, most_by, packets_by, short_by, taken_by, taken_told}
+use Rattle.exports.specs.Handed.{answers_by, bytes_by, due_of, most_by, packets_by, short_by, taken_by, taken_told}
 use Rattle.exports.specs.Kept.{count_numbers}
 use Rattle.single.specs.Over.{over}
 
@@ -40,6 +40,38 @@ one_end s =
 end_by : (count : ℕ) (s : List ℕ) (b : Bool) → end_from (not b) (cond b count 1) 0 s ≡ cond b (end_from false count 0 s) (length s)
 end_by count s true = refl
 end_by count s false = one_end s
+
+-- ---- how many are due
+
+some_by : (b : Bool) (m : ℕ) {d : ℕ} → cond b (Some m) None ≡ Some d → (true ≡ b) × (d ≡ m)
+some_by true m e = (refl, cc)
+some_by false m e = absurd (cc)
+
+none_by : (b : Bool) (m : ℕ) → cond b (Some m) None ≡ None → false ≡ b
+none_by true m e = absurd (cc)
+none_by false m e = refl
+
+module _ (one : Bool) (count n : ℕ) {r : Option ℕ} (is : r ≡ due_of one count n) where
+  pub some_due : {due : ℕ} → r ≡ Some due → (true ≡ leb (cond one 1 count) (n / 4)) × (due ≡ cond one 1 count)
+  some_due e = some_by (leb (cond one 1 count) (n / 4)) (cond one 1 count) (sym is ∙ e)
+
+  pub none_due : r ≡ None → false ≡ leb (cond one 1 count) (n / 4)
+  none_due e = none_by (leb (cond one 1 count) (n / 4)) (cond one 1 count) (sym is ∙ e)
+
+-- ---- where the answers do not fit
+
+module _ (x : Meaning) (single count : ℕ) (s answers : List ℕ) (short : short_by single count (length answers) ≡ true) where
+  pub taken_none : {h : Held} → h ≡ rep x → h ≡ rep (taken_by x single count s (length answers))
+  unfolding taken_by
+  taken_none e = e ∙ ap rep (sym (simp short))
+
+  pub rows_none : answers ≡ answers_by x single count s answers
+  unfolding answers_by
+  rows_none = sym (simp short)
+
+  pub told_none : (old : List ℕ) → over (11 ∷ 0 ∷ 0 ∷ []) old ≡ taken_told single count s (length answers) old
+  unfolding taken_told
+  told_none old = sym (simp short)
 
 -- ---- the three numbers
 
@@ -83,7 +115,7 @@ module _ (x : Meaning) (single count : ℕ) (s answers : List ℕ) {one : Bool} 
   unfolding end_from
   taken_bytes e = e ∙ by_room (λ (n : ℕ). end_from one n 0 s) refl ∙ ap (cond (short_by single count (length answers)) 0) end
 
-  fitting : short_by single count (length answers) ≡ not fits
+  pub fitting : short_by single count (length answers) ≡ not fits
   fitting = ap (λ (n : ℕ). ltb (length answers) (4 * n)) (sym mosts) ∙ short x s answers most test dues
 
   pub told_all : (old : List ℕ) {packets : Result ℕ Refusal} {taken at : ℕ} → packets ≡ count_if fits taken → taken ≡ length (packets_from one due 0 s) → at ≡ end_from one due 0 s

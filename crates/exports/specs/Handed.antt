@@ -1,12 +1,11 @@
 -- Lent bytes as packets, and what comes of handing them in.
 -- Assumes nothing.
-use Rattle.std.specs.Prelude.{Bool, false, cond, not, List, [], ◌∷◌, ℕ, ◌*◌, ◌/◌, eqb, leb, ltb, length}
+use Rattle.std.specs.Prelude.{Bool, false, cond, List, [], ◌∷◌, ℕ, ◌*◌, ◌/◌, eqb, leb, ltb, length, Option, Some, None}
 use Rattle.wire.specs.Number.{splice}
 use Rattle.merge.specs.State.{take_all}
 use Rattle.window_taking.specs.Turns.{end_from, packets_in}
 use Rattle.session.specs.Meaning.{Meaning, overnight}
 use Rattle.session.specs.Bursts.{rows_of}
-use Rattle.exports.specs.declared.taking.Plan.{Plan}
 use Rattle.single.specs.Over.{over}
 
 -- how many the host says: one, where the bytes are one packet
@@ -39,9 +38,6 @@ taken_told single count s n old = cond (short_by single count n) (over (11 ∷ 0
 
 -- ---- how the call is carried out
 
--- the bytes are one packet where the first number is not 0; all that the host says are due where their answers fit, and else none
-abbrev pub plan_of : ℕ → ℕ → ℕ → Plan
-plan_of single count n =
-    let one = not (eqb single 0) in
-    let most = cond one 1 count in
-    record { one = one; due = cond (leb most (n / 4)) most 0; fits = leb most (n / 4) }
+-- all that the host says are due where their answers fit; of bytes that are one packet it is one
+abbrev pub due_of : Bool → ℕ → ℕ → Option ℕ
+due_of one count n = cond (leb (cond one 1 count) (n / 4)) (Some (cond one 1 count)) None

@@ -12,7 +12,7 @@ ghost use Rattle.single.specs.Told.{number_told};
 ghost use Rattle.exports.specs.Told.{gap_numbers, inside_numbers, inside_told, numbers_in, order_numbers};
 
 use book::lookup::{back, front};
-use book::tables::{Inside, OpeningRule, Order};
+use book::tables::{Inside, Order};
 use book_room::finding::found;
 use book_room::room::{HELD, LIVE, Room};
 use fields::id::value;
@@ -54,11 +54,7 @@ pub fn jangsebit_lowest(room: &Room, window: &Window) -> u64
 pub fn jangsebit_rule(room: &Room) -> u64
     ensures { result ≡ rule_number (rule_in room.now) }
 {
-    let rule = session::asking::rule(room);
-    match rule {
-        OpeningRule::Default => 0,
-        OpeningRule::Strict => 1,
-    }
+    session::asking::rule(room) as u64
 }
 
 // How many messages of such a type were counted apart.

@@ -4,7 +4,6 @@
 #![tactic(auto)]
 
 mod alone;
-mod applying;
 mod asking;
 mod keeping;
 mod passing;
@@ -32,13 +31,14 @@ pub use asking::{
     jangsebit_rule, jangsebit_unlisted,
 };
 use book::tables::OpeningRule;
-use book_room::room::Room;
+use book_room::room::{NEXT, Room};
 pub use keeping::{jangsebit_keep, jangsebit_keep_packets};
 pub use passing::jangsebit_pass;
-use refusals::number_in;
-use session::packets::count_of;
+use refusals::{Refusal, number_in};
+use session::packets::most_due;
 use session::state::Session;
 use single::telling::tell;
+use taking::{due_of, tell_all};
 pub use sizes::jangsebit_sizes;
 use window::places::Window;
 
@@ -93,11 +93,13 @@ pub fn jangsebit_packets(
     ensures told { told.new ≡ taken_told single count packets.now (length answers.old) told.old }
     ensures rule { Ruled (held session.new room.new window.new) }
 {
-    let plan = taking::make_plan(single, count, answers.len());
-    let ended = session_lent::run(
-        session, room, window, packets, plan.one, plan.due, answers, 0,
-    );
-    taking::tell_all(told, count_of(plan.fits, ended.taken), ended.at);
+    let one = single != 0;
+    let Some(due) = due_of(one, count, answers.len()) else {
+        tell_all(told, Err(Refusal::NoRoom), 0);
+        return;
+    };
+    let ended = session_lent::run(session, room, window, packets, one, due, answers, 0);
+    tell_all(told, Ok(ended.taken), ended.at);
 }
 
 // Applies up to so many of the messages that wait from next on, in their order. The answer is how many.
@@ -112,20 +114,12 @@ pub fn jangsebit_apply(
     ensures count { result ≡ applied_by (view (held session.old room.old window.old)) count }
     ensures rule { Ruled (held session.new room.new window.new) }
 {
-    let packets = [0u8; 0];
+    let nothing = [0u8; 0];
     let mut answers = [0u64; 0];
-    let start = applying::begin(room, count);
-    session_lent::run(
-        session,
-        room,
-        window,
-        &packets,
-        false,
-        0,
-        &mut answers,
-        start.due,
-    );
-    applying::applied_since(room, start.next)
+    let before = room[NEXT];
+    let due = most_due(count);
+    session_lent::run(session, room, window, &nothing, false, 0, &mut answers, due);
+    room[NEXT] - before
 }
 
 // The live order of an id: the id's value, price, shares, firm, the symbol's first eight bytes and its last eight as

@@ -1,36 +1,18 @@
 // What stands around the engine where packets go into a session.
-ghost use Rattle.std.specs.Prelude.{◌≡◌, cond};
-ghost use Rattle.exports.specs.Handed.{plan_of};
+ghost use Rattle.std.specs.Prelude.{◌≡◌};
+ghost use Rattle.exports.specs.Handed.{due_of};
 ghost use Rattle.exports.specs.Kept.{count_numbers};
 ghost use Rattle.single.specs.Over.{over};
 
 use refusals::{Refusal, number_in};
-use session::packets::due_of;
 
-// What a call takes: whether the bytes are one packet, how many packets are due, and whether the answers fit.
-#[derive(Clone, Copy)]
-pub struct Plan {
-    pub one: bool,
-    pub due: usize,
-    pub fits: bool,
-}
-
-// How many the host says; bytes that are one packet are one.
-fn most_of(one: bool, count: usize) -> usize
-    ensures { result ≡ cond one 1 count }
+// How many packets the call takes, as many as the host says; bytes that are one packet are one. None where the answers to
+// so many do not fit.
+pub fn due_of(one: bool, count: u64, space: usize) -> Option<usize>
+    ensures { result ≡ due_of one count space }
 {
-    if one { 1 } else { count }
-}
-
-// From what the host says and the length of its list of answers.
-pub fn make_plan(single: u64, count: u64, space: usize) -> Plan
-    ensures { result ≡ plan_of single count space }
-{
-    let one = single != 0;
-    let most = most_of(one, count as usize);
-    let fits = most <= space / 4;
-    let due = due_of(fits, most);
-    Plan { one, due, fits }
+    let most = if one { 1 } else { count as usize };
+    if most <= space / 4 { Some(most) } else { None }
 }
 
 // The refusal, how many packets there were and how many bytes they are.

@@ -16,7 +16,7 @@ use Rattle.fields.specs.Rules.{good_price, good_quantity}
 use Rattle.message.specs.Layouts.{layout_of}
 use Rattle.message.specs.Row.{bare, fields_of, message_of, price_of, type_of_terms}
 use Rattle.message.specs.Rules.{FieldRule, broken_by, broken_of, broken_or, first_broken, keeps, number, placed, rules_of}
-use Rattle.std.proofs.Common.{Option, Some, None}
+use Rattle.std.proofs.Common.{Some, None}
 use Rattle.message.specs.Table.{below, payload_listed, payload_of, payloads, payload_table, tabulate, too_short}
 use Rattle.message.specs.declared.kinds.Body.TheVariants.{Execution, Other}
 use Rattle.message.specs.declared.kinds.Terms.{Terms}
@@ -28,17 +28,11 @@ use Rattle.message.specs.declared.kinds.Body.{Body}
 pub kind_is : (m : Message) {b : Body} {r : ℕ} → m.body ≡ b → r ≡ broken_of (record { id = m.id; symbol = m.symbol; firm = m.firm; body = b }) → r ≡ broken_of m
 kind_is m e h = h ∙ ap (λ (b : Body). broken_of (record { id = m.id; symbol = m.symbol; firm = m.firm; body = b })) (sym e)
 
--- the first test by what it comes to, and the tests behind it
-pub broken_is : {r behind last : ℕ} {k t : Bool} (at : ℕ) → r ≡ broken_or k at behind → k ≡ t → behind ≡ last → r ≡ broken_or t at last
-broken_is at r e rest = r ∙ (λ i. broken_or (e i) at (rest i))
-
+-- the first test by what it comes to
 pub tested : {r : ℕ} {k t : Bool} (at behind : ℕ) → r ≡ broken_or k at behind → k ≡ t → r ≡ broken_or t at behind
-tested at behind r e = broken_is at r e refl
+tested at behind r e = r ∙ ap (λ (k : Bool). broken_or k at behind) e
 
--- an execution by its terms, and in a message
-pub terms_are : {terms t : Terms} {r : ℕ} (named : Bool) (executed : ℕ) → terms ≡ t → r ≡ broken_by (type_of_terms t) (named ∷ good_quantity executed ∷ map (number good_price) (price_of t)) → r ≡ broken_by (type_of_terms terms) (named ∷ good_quantity executed ∷ map (number good_price) (price_of terms))
-terms_are named executed e h = h ∙ ap (λ (t : Terms). broken_by (type_of_terms t) (named ∷ good_quantity executed ∷ map (number good_price) (price_of t))) (sym e)
-
+-- an execution by its terms, in a message
 pub executed-is : (id symbol firm : List ℕ) (time executed remaining execution : ℕ) (terms : Terms) {r : ℕ} {named : Bool} → r ≡ broken_by (type_of_terms terms) (named ∷ good_quantity executed ∷ map (number good_price) (price_of terms)) → named ≡ good_id id → r ≡ broken_of (record { id = id; symbol = symbol; firm = firm; body = Execution time executed remaining execution terms })
 unfolding broken_of layout_of
 executed-is id symbol firm time executed remaining execution Published r e = tested _ _ r e
@@ -123,24 +117,12 @@ behind : (rows : List (ℕ × ℕ)) (n k last : ℕ) → all_below n rows ≡ tr
 behind [] n k last h far = refl
 behind (row ∷ rows) n k last h far = behind_row row rows n k last (ltb row.0 n) refl h far (λ rest. behind rows n k last rest far)
 
--- the payload of a type that may be listed, and whether n bytes are too few for it
+-- the payload of a type that may be listed
 pub listed-none : (k : ℕ) → 255 ≡ payload_of k → None ≡ payload_listed k
 listed-none k e = simp (eq-eqb _ _ (sym e))
 
 pub listed-some : (k p : ℕ) → p ≡ payload_of k → (p ≡ 255 → ⊥) → Some p ≡ payload_listed k
 listed-some k p e some = simp (ne_eqb (payload_of k) 255 (λ all. some (e ∙ all))) (ap Some e)
-
-pub too_few : (k n : ℕ) {p : ℕ} → payload_listed k ≡ Some p → ltb n (3 + p) ≡ too_short k n
-too_few k n {p} e = by_payload (eqb (payload_of k) 255) refl e where
-  by_payload : (b : Bool) → eqb (payload_of k) 255 ≡ b → payload_listed k ≡ Some p → ltb n (3 + p) ≡ too_short k n
-  by_payload true all e = let z : ◌≡◌ {A = Option ℕ} None (Some p) = rw all at e in let one : ◌≡◌ {A = ℕ} 0 1 = cc in absurd (omega arith)
-  by_payload false some e = let z : ◌≡◌ {A = Option ℕ} (Some (payload_of k)) (Some p) = rw some at e in let is : payload_of k ≡ p = cc in simp some (ap (λ (m : ℕ). ltb n (3 + m)) (sym is))
-
-pub none_needed : (k n : ℕ) → payload_listed k ≡ None → false ≡ too_short k n
-none_needed k n e = by_payload (eqb (payload_of k) 255) refl e where
-  by_payload : (b : Bool) → eqb (payload_of k) 255 ≡ b → payload_listed k ≡ None → false ≡ too_short k n
-  by_payload true all e = simp all
-  by_payload false some e = let z : ◌≡◌ {A = Option ℕ} (Some (payload_of k)) None = rw some at e in let one : ◌≡◌ {A = ℕ} 0 1 = cc in absurd (omega arith)
 
 pub unlisted-behind : (k : ℕ) → 32 ≤ k → 255 ≡ payload_of k
 unfolding payload_of

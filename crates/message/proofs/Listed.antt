@@ -1,14 +1,14 @@
 -- What a listed type's number says.
 -- Assumes nothing.
-use Rattle.std.proofs.Common.{◌≡◌, ℕ, ◌<◌, ◌≤◌, refl, lit≤, subst, sym, ap, not, ◌+◌, ◌∙◌, eqb, eq-eqb, ne_eqb, true, false, Bool, arith}
-use Rattle.message.specs.Table.{payload_of, too_short}
+use Rattle.std.proofs.Common.{◌≡◌, List, ℕ, ◌<◌, refl, lit≤, subst, sym, ap, ◌∙◌, eqb, eq-eqb, ne_eqb, false}
+use Rattle.std.proofs.lemmas.Bool.{true≢false}
+use Rattle.message.specs.Row.{bare, fields_of}
+use Rattle.message.specs.declared.kinds.Body.TheVariants.{Other}
+use Rattle.message.specs.Table.{payload_of}
 use Rattle.message.specs.Types.{type_number}
 use Rattle.message.specs.declared.types.Kind.{Kind}
 use Rattle.message.specs.declared.types.Kind.TheVariants.{Security, SpinStart, SpinEnd, TradingSession, Add, Update, Delete, Execution, Priced, Top, Trade, Imbalance}
-use Rattle.message.proofs.Cases.{room, Unopened}
-
-true-false : ◌≡◌ {A = Bool} true false → ⊥
-true-false e = let one : ◌≡◌ {A = ℕ} 0 1 = cc in omega arith
+use Rattle.message.proofs.Cases.{unopened, Unopened}
 
 -- it is one of the first 32
 pub small_number : (kind : Kind) → type_number kind < 32
@@ -27,7 +27,7 @@ small_number Imbalance = lit≤ tt
 
 -- no listed type has number 0
 pub some_number : (kind : Kind) → type_number kind ≡ 0 → ⊥
-some_number kind e = true-false (sym (eq-eqb _ _ e) ∙ other kind)
+some_number kind e = true≢false (sym (eq-eqb _ _ e) ∙ other kind)
   where
     other : (kind : Kind) → eqb (type_number kind) 0 ≡ false
     other Security = refl
@@ -51,9 +51,9 @@ not_listed n h last =
 
 -- a type that is not listed is not opened
 differs : (n k : ℕ) → payload_of n ≡ 255 → eqb (payload_of k) 255 ≡ false → n ≡ k → ⊥
-differs n k none listed e = true-false (sym (eq-eqb _ _ (subst (λ (m : ℕ). payload_of m ≡ 255) e none)) ∙ listed)
+differs n k none listed e = true≢false (sym (eq-eqb _ _ (subst (λ (m : ℕ). payload_of m ≡ 255) e none)) ∙ listed)
 
-pub not_opened : (n : ℕ) → payload_of n ≡ 255 → Unopened n
+not_opened : (n : ℕ) → payload_of n ≡ 255 → Unopened n
 unfolding payload_of
 not_opened n none =
     let other = λ (k : ℕ) (listed : eqb (payload_of k) 255 ≡ false). differs n k none listed in
@@ -63,21 +63,6 @@ not_opened n none =
 pub number_is : {k : Kind} {n : ℕ} (kind : Kind) → type_number k ≡ n → k ≡ kind → n ≡ type_number kind
 number_is kind told e = sym told ∙ ap type_number e
 
--- a message of a listed type that is not too short has room for the type's fields
-listed : (kind : Kind) → not (eqb (payload_of (type_number kind)) 255) ≡ true
-unfolding payload_of
-listed Security = refl
-listed SpinStart = refl
-listed SpinEnd = refl
-listed TradingSession = refl
-listed Add = refl
-listed Update = refl
-listed Delete = refl
-listed Execution = refl
-listed Priced = refl
-listed Top = refl
-listed Trade = refl
-listed Imbalance = refl
-
-pub room_for : {k : Kind} {t n : ℕ} (kind : Kind) → type_number k ≡ t → k ≡ kind → too_short t n ≡ false → 3 + payload_of (type_number kind) ≤ n
-room_for {n = n} kind told e enough = room (type_number kind) n (number_is kind told e) (listed kind) enough
+-- of a type that is not listed there is the type alone
+pub unlisted_fields : (n : ℕ) (s : List ℕ) → payload_of n ≡ 255 → bare (Other n) ≡ fields_of n s
+unlisted_fields n s none = unopened n s (not_opened n none)

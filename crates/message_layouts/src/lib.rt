@@ -18,14 +18,14 @@ pub fn security(s: &[u8]) -> SecurityFields
 {
     SecurityFields {
         symbol: wire::text_at(s, 3),
-        updated: wire::u64_at(s, 17),
-        action: wire::u8_at(s, 25),
-        class: wire::u8_at(s, 26),
-        security: wire::u32_at(s, 27),
-        flags: wire::u16_at(s, 31),
-        tier: wire::u8_at(s, 33),
-        reporting: wire::u8_at(s, 34),
-        status: wire::u8_at(s, 35),
+        updated: wire::number_at(s, 17),
+        action: wire::number_at(s, 25),
+        class: wire::number_at(s, 26),
+        security: wire::number_at(s, 27),
+        flags: wire::number_at(s, 31),
+        tier: wire::number_at(s, 33),
+        reporting: wire::number_at(s, 34),
+        status: wire::number_at(s, 35),
     }
 }
 
@@ -34,9 +34,9 @@ pub fn spin_start(s: &[u8]) -> SpinStartFields
     ensures { result ≡ spin_start_in (row_in layouts.spin_start s.now) }
 {
     SpinStartFields {
-        spin: wire::u8_at(s, 3),
-        time: wire::u64_at(s, 4),
-        last: wire::u32_at(s, 12),
+        spin: wire::number_at(s, 3),
+        time: wire::number_at(s, 4),
+        last: wire::number_at(s, 12),
     }
 }
 
@@ -45,10 +45,10 @@ pub fn spin_end(s: &[u8]) -> SpinEndFields
     ensures { result ≡ spin_end_in (row_in layouts.spin_end s.now) }
 {
     SpinEndFields {
-        spin: wire::u8_at(s, 3),
-        count: wire::u32_at(s, 4),
-        time: wire::u64_at(s, 8),
-        last: wire::u32_at(s, 16),
+        spin: wire::number_at(s, 3),
+        count: wire::number_at(s, 4),
+        time: wire::number_at(s, 8),
+        last: wire::number_at(s, 16),
     }
 }
 
@@ -57,8 +57,8 @@ pub fn trading_session(s: &[u8]) -> TradingSessionFields
     ensures { result ≡ trading_session_in (row_in layouts.trading_session s.now) }
 {
     TradingSessionFields {
-        time: wire::u64_at(s, 3),
-        session: wire::u8_at(s, 11),
+        time: wire::number_at(s, 3),
+        session: wire::number_at(s, 11),
     }
 }
 
@@ -68,7 +68,7 @@ pub fn named(s: &[u8]) -> Named
     ensures { result ≡ named_in (row_in layouts.delete s.now) }
 {
     Named {
-        time: wire::u32_at(s, 3),
+        time: wire::number_at(s, 3),
         id: wire::text_at(s, 7),
     }
 }
@@ -79,9 +79,9 @@ pub fn update(s: &[u8]) -> UpdateFields
 {
     UpdateFields {
         named: named(s),
-        quantity: wire::u32_at(s, 21),
-        price: wire::u64_at(s, 25),
-        flags: wire::u16_at(s, 33),
+        quantity: wire::number_at(s, 21),
+        price: wire::number_at(s, 25),
+        flags: wire::number_at(s, 33),
     }
 }
 
@@ -91,9 +91,9 @@ pub fn execution(s: &[u8]) -> ExecutionFields
 {
     ExecutionFields {
         named: named(s),
-        executed: wire::u32_at(s, 21),
-        remaining: wire::u32_at(s, 25),
-        execution: wire::u64_at(s, 29),
+        executed: wire::number_at(s, 21),
+        remaining: wire::number_at(s, 25),
+        execution: wire::number_at(s, 29),
     }
 }
 
@@ -104,7 +104,7 @@ pub fn priced(s: &[u8]) -> PricedFields
 {
     PricedFields {
         execution: execution(s),
-        price: wire::u64_at(s, 37),
+        price: wire::number_at(s, 37),
     }
 }
 
@@ -113,10 +113,10 @@ fn deal(s: &[u8], at: usize) -> Deal
     ensures { result ≡ deal_in (decode layouts.deal at s.now) }
 {
     Deal {
-        side: wire::u8_at(s, at),
-        quantity: wire::u32_at(s, at + 1),
+        side: wire::number_at(s, at),
+        quantity: wire::number_at(s, at + 1),
         symbol: wire::text_at(s, at + 5),
-        price: wire::u64_at(s, at + 19),
+        price: wire::number_at(s, at + 19),
     }
 }
 
@@ -128,8 +128,8 @@ pub fn add(s: &[u8]) -> AddFields
         named: named(s),
         deal: deal(s, 21),
         firm: wire::text_at(s, 48),
-        unsolicited: wire::u8_at(s, 52),
-        flags: wire::u16_at(s, 53),
+        unsolicited: wire::number_at(s, 52),
+        flags: wire::number_at(s, 53),
     }
 }
 
@@ -138,10 +138,10 @@ pub fn trade(s: &[u8]) -> TradeFields
     ensures { result ≡ trade_in (row_in layouts.trade s.now) }
 {
     TradeFields {
-        time: wire::u32_at(s, 3),
+        time: wire::number_at(s, 3),
         deal: deal(s, 7),
-        execution: wire::u64_at(s, 34),
-        reserved: wire::u64_at(s, 42),
+        execution: wire::number_at(s, 34),
+        reserved: wire::number_at(s, 42),
     }
 }
 
@@ -150,8 +150,8 @@ fn quote(s: &[u8], at: usize) -> Quote
     ensures { result ≡ quote_in (decode layouts.quote at s.now) }
 {
     Quote {
-        price: wire::u64_at(s, at),
-        volume: wire::u32_at(s, at + 8),
+        price: wire::number_at(s, at),
+        volume: wire::number_at(s, at + 8),
     }
 }
 
@@ -160,10 +160,10 @@ pub fn top(s: &[u8]) -> TopFields
     ensures { result ≡ top_in (row_in layouts.top s.now) }
 {
     TopFields {
-        time: wire::u32_at(s, 3),
+        time: wire::number_at(s, 3),
         symbol: wire::text_at(s, 7),
         ask: quote(s, 21),
         bid: quote(s, 33),
-        unsolicited: wire::u8_at(s, 45),
+        unsolicited: wire::number_at(s, 45),
     }
 }

@@ -17,20 +17,20 @@ fn security_front(buf: &mut [u8], at: usize, fields: SecurityFields)
     ensures { buf.new ≡ put_row (take 4 layouts.security) (text_is fields.symbol ∷ number_is fields.updated ∷ number_is fields.action ∷ number_is fields.class ∷ []) buf.old at }
 {
     wire::put_text(buf, at, &fields.symbol);
-    wire::put_u64(buf, at + 14, fields.updated);
-    wire::put_u8(buf, at + 22, fields.action);
-    wire::put_u8(buf, at + 23, fields.class);
+    wire::put_number(buf, at + 14, fields.updated);
+    wire::put_number(buf, at + 22, fields.action);
+    wire::put_number(buf, at + 23, fields.class);
 }
 
 fn security_back(buf: &mut [u8], at: usize, fields: SecurityFields)
     requires { at + width_of (drop 4 layouts.security) ≤ length buf.old }
     ensures { buf.new ≡ put_row (drop 4 layouts.security) (number_is fields.security ∷ number_is fields.flags ∷ number_is fields.tier ∷ number_is fields.reporting ∷ number_is fields.status ∷ []) buf.old at }
 {
-    wire::put_u32(buf, at, fields.security);
-    wire::put_u16(buf, at + 4, fields.flags);
-    wire::put_u8(buf, at + 6, fields.tier);
-    wire::put_u8(buf, at + 7, fields.reporting);
-    wire::put_u8(buf, at + 8, fields.status);
+    wire::put_number(buf, at, fields.security);
+    wire::put_number(buf, at + 4, fields.flags);
+    wire::put_number(buf, at + 6, fields.tier);
+    wire::put_number(buf, at + 7, fields.reporting);
+    wire::put_number(buf, at + 8, fields.status);
 }
 
 fn of_security(buf: &mut [u8], at: usize, fields: SecurityFields)
@@ -45,27 +45,27 @@ fn spin_start(buf: &mut [u8], at: usize, fields: SpinStartFields)
     requires { at + width_of layouts.spin_start ≤ length buf.old }
     ensures { buf.new ≡ put_row layouts.spin_start (number_is fields.spin ∷ number_is fields.time ∷ number_is fields.last ∷ []) buf.old at }
 {
-    wire::put_u8(buf, at, fields.spin);
-    wire::put_u64(buf, at + 1, fields.time);
-    wire::put_u32(buf, at + 9, fields.last);
+    wire::put_number(buf, at, fields.spin);
+    wire::put_number(buf, at + 1, fields.time);
+    wire::put_number(buf, at + 9, fields.last);
 }
 
 fn spin_end(buf: &mut [u8], at: usize, fields: SpinEndFields)
     requires { at + width_of layouts.spin_end ≤ length buf.old }
     ensures { buf.new ≡ put_row layouts.spin_end (number_is fields.spin ∷ number_is fields.count ∷ number_is fields.time ∷ number_is fields.last ∷ []) buf.old at }
 {
-    wire::put_u8(buf, at, fields.spin);
-    wire::put_u32(buf, at + 1, fields.count);
-    wire::put_u64(buf, at + 5, fields.time);
-    wire::put_u32(buf, at + 13, fields.last);
+    wire::put_number(buf, at, fields.spin);
+    wire::put_number(buf, at + 1, fields.count);
+    wire::put_number(buf, at + 5, fields.time);
+    wire::put_number(buf, at + 13, fields.last);
 }
 
 fn trading_session(buf: &mut [u8], at: usize, fields: TradingSessionFields)
     requires { at + width_of layouts.trading_session ≤ length buf.old }
     ensures { buf.new ≡ put_row layouts.trading_session (number_is fields.time ∷ number_is fields.session ∷ []) buf.old at }
 {
-    wire::put_u64(buf, at, fields.time);
-    wire::put_u8(buf, at + 8, fields.session);
+    wire::put_number(buf, at, fields.time);
+    wire::put_number(buf, at + 8, fields.session);
 }
 
 // What 21 to 25 begin with, which is all of an Order Delete.
@@ -73,7 +73,7 @@ fn named(buf: &mut [u8], at: usize, fields: Named)
     requires { at + width_of layouts.delete ≤ length buf.old }
     ensures { buf.new ≡ put_row layouts.delete (number_is fields.time ∷ text_is fields.id ∷ []) buf.old at }
 {
-    wire::put_u32(buf, at, fields.time);
+    wire::put_number(buf, at, fields.time);
     wire::put_text(buf, at + 4, &fields.id);
 }
 
@@ -84,8 +84,8 @@ fn add(buf: &mut [u8], at: usize, fields: AddFields)
     named(buf, at, fields.named);
     deal(buf, at + 18, fields.deal);
     wire::put_text(buf, at + 45, &fields.firm);
-    wire::put_u8(buf, at + 49, fields.unsolicited);
-    wire::put_u16(buf, at + 50, fields.flags);
+    wire::put_number(buf, at + 49, fields.unsolicited);
+    wire::put_number(buf, at + 50, fields.flags);
 }
 
 fn update(buf: &mut [u8], at: usize, fields: UpdateFields)
@@ -93,9 +93,9 @@ fn update(buf: &mut [u8], at: usize, fields: UpdateFields)
     ensures { buf.new ≡ put_row layouts.update (number_is fields.named.time ∷ text_is fields.named.id ∷ number_is fields.quantity ∷ number_is fields.price ∷ number_is fields.flags ∷ []) buf.old at }
 {
     named(buf, at, fields.named);
-    wire::put_u32(buf, at + 18, fields.quantity);
-    wire::put_u64(buf, at + 22, fields.price);
-    wire::put_u16(buf, at + 30, fields.flags);
+    wire::put_number(buf, at + 18, fields.quantity);
+    wire::put_number(buf, at + 22, fields.price);
+    wire::put_number(buf, at + 30, fields.flags);
 }
 
 // An execution, at the published price or, behind the fields of both, at its own.
@@ -104,16 +104,17 @@ fn of_execution(buf: &mut [u8], at: usize, fields: ExecutionFields, terms: Terms
     ensures { buf.new ≡ put_row (layouts.layout_of (type_of_terms terms)) (row_with fields.named.id [] [] (Body.Execution fields.named.time fields.executed fields.remaining fields.execution terms)) buf.old at }
 {
     named(buf, at, fields.named);
-    wire::put_u32(buf, at + 18, fields.executed);
-    wire::put_u32(buf, at + 22, fields.remaining);
-    wire::put_u64(buf, at + 26, fields.execution);
+    wire::put_number(buf, at + 18, fields.executed);
+    wire::put_number(buf, at + 22, fields.remaining);
+    wire::put_number(buf, at + 26, fields.execution);
     match terms {
         Terms::Published => {}
-        Terms::Own(price) => wire::put_u64(buf, at + 34, price),
+        Terms::Own(price) => wire::put_number(buf, at + 34, price),
     }
 }
 
 // The fields of a message by its kind, an arm each; of 28 and unlisted types there are none.
+#[tactic(auto, using(crate::proofs::ByKind::kind_room, crate::proofs::ByKind::kind_put, wire::proofs::Layouts::none_row), unfolding(message::specs::Layouts::layout_of))]
 pub fn fields(message: Message, buf: &mut [u8], at: usize)
     requires { at + width_of (layouts.layout_of (type_of message)) ≤ length buf.old }
     ensures { buf.new ≡ put_row (layouts.layout_of (type_of message)) (row_of message) buf.old at }

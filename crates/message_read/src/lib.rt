@@ -21,11 +21,11 @@ pub fn read(s: &[u8]) -> Result<Message, Refusal>
     if message::LONGEST < n {
         return Err(Refusal::BadMessage);
     }
-    let size = wire::u16_at(s, 0);
+    let size = wire::number_at::<u16>(s, 0);
     if size as usize != n {
         return Err(Refusal::BadMessage);
     }
-    let kind = wire::u8_at(s, 2);
+    let kind = wire::number_at::<u8>(s, 2);
     let sizes = table::sizes();
     if table::too_short(&sizes, kind, n) {
         return Err(Refusal::BadMessage);

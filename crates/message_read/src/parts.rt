@@ -13,6 +13,7 @@ pub fn plain(kind: u8) -> Message
 }
 
 // The message of a type that stands in bytes; the type alone where it is not opened.
+#[tactic(auto, using(message::proofs::Listed::unlisted_fields), unfolding(message::specs::Table::payload_of, message::specs::Row::fields_of, message::specs::Row::message_of, message::specs::Layouts::layout_of))]
 pub fn fields(s: &[u8], kind: u8) -> Message
     requires { too_short kind (length s.now) ≡ false }
     ensures { result ≡ fields_of kind s.now }

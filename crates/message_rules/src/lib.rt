@@ -1,12 +1,13 @@
 // Parts: the field rules of a whole message. Each function answers the offset of the first field that
-// breaks its rule, 0 where none does. Every test is worked out, so the code stays straight. Of an id
+// breaks its rule, if one does. Every test is worked out, so the code stays straight. Of an id
 // they take whether it keeps its rule: who has its value knows that already.
 #![tactic(auto)]
 
-ghost use Rattle.std.specs.Prelude.{◌≡◌, [], ◌∷◌, map, ◌+◌, ◌<◌};
+ghost use Rattle.std.specs.Prelude.{◌≡◌, [], ◌∷◌, map, ◌+◌, ◌<◌, cond, Some};
 ghost use Rattle.fields.specs.Rules.{good_symbol, good_side, good_trade_side, good_quantity, good_price, good_inside_price, good_unsolicited, good_session};
 ghost use Rattle.message.specs.Row.{price_of, type_of_terms};
-ghost use Rattle.message.specs.Rules.{broken_by, broken_of, broken_or, good_message, number};
+ghost use Rattle.message.specs.Rules.{broken_by, broken_of, good_message, number};
+ghost use Rattle.message_rules.specs.Offsets.{offset_told};
 
 use fields::id::good_id;
 use fields_rules::{
@@ -17,86 +18,86 @@ use message::layouts::Deal;
 use message::{Body, Message, Terms};
 
 // Where the field at `at` keeps its rule, what the fields behind it answer.
-fn broken_or(kept: bool, at: u8, behind: u8) -> u8
-    ensures { result ≡ broken_or kept at behind }
+fn broken_or(kept: bool, at: u8, behind: Option<u8>) -> Option<u8>
+    ensures { result ≡ cond kept behind (Some at) }
 {
-    if kept { behind } else { at }
+    if kept { behind } else { Some(at) }
 }
 
-pub fn trading_session(session: u8) -> u8
-    ensures { result ≡ broken_by 20 (good_session session ∷ []) }
+pub fn trading_session(session: u8) -> Option<u8>
+    ensures { result ≡ offset_told (broken_by 20 (good_session session ∷ [])) }
 {
-    broken_or(good_session(session), 11, 0)
+    broken_or(good_session(session), 11, None)
 }
 
 // What an Order Add offers and a Trade exchanged, from the quantity on, which stands at `at`: of the side
 // before it each has a rule of its own.
-fn dealt(at: u8, deal: &Deal, behind: u8) -> u8
+fn dealt(at: u8, deal: &Deal, behind: Option<u8>) -> Option<u8>
     requires { at + 18 < 256 }
-    ensures { result ≡ broken_or (good_quantity deal.now.quantity) at (broken_or (good_symbol deal.now.symbol) (at + 4) (broken_or (good_price deal.now.price) (at + 18) behind)) }
+    ensures { result ≡ cond (good_quantity deal.now.quantity) (cond (good_symbol deal.now.symbol) (cond (good_price deal.now.price) behind (Some (at + 18))) (Some (at + 4))) (Some at) }
 {
     let priced = broken_or(good_price(deal.price), at + 18, behind);
     let about = broken_or(good_symbol(deal.symbol), at + 4, priced);
     broken_or(good_quantity(deal.quantity), at, about)
 }
 
-pub fn add(named: bool, deal: &Deal, unsolicited: u8) -> u8
-    ensures { result ≡ broken_by 21 (named ∷ good_side deal.now.side ∷ good_quantity deal.now.quantity ∷ good_symbol deal.now.symbol ∷ good_price deal.now.price ∷ good_unsolicited unsolicited ∷ []) }
+pub fn add(named: bool, deal: &Deal, unsolicited: u8) -> Option<u8>
+    ensures { result ≡ offset_told (broken_by 21 (named ∷ good_side deal.now.side ∷ good_quantity deal.now.quantity ∷ good_symbol deal.now.symbol ∷ good_price deal.now.price ∷ good_unsolicited unsolicited ∷ [])) }
 {
-    let told = broken_or(good_unsolicited(unsolicited), 52, 0);
+    let told = broken_or(good_unsolicited(unsolicited), 52, None);
     let behind = dealt(22, deal, told);
     let sided = broken_or(good_side(deal.side), 21, behind);
     broken_or(named, 7, sided)
 }
 
-pub fn update(named: bool, quantity: u32, price: u64) -> u8
-    ensures { result ≡ broken_by 22 (named ∷ good_quantity quantity ∷ good_price price ∷ []) }
+pub fn update(named: bool, quantity: u32, price: u64) -> Option<u8>
+    ensures { result ≡ offset_told (broken_by 22 (named ∷ good_quantity quantity ∷ good_price price ∷ [])) }
 {
-    let priced = broken_or(good_price(price), 25, 0);
+    let priced = broken_or(good_price(price), 25, None);
     let sized = broken_or(good_quantity(quantity), 21, priced);
     broken_or(named, 7, sized)
 }
 
-pub fn delete(named: bool) -> u8
-    ensures { result ≡ broken_by 23 (named ∷ []) }
+pub fn delete(named: bool) -> Option<u8>
+    ensures { result ≡ offset_told (broken_by 23 (named ∷ [])) }
 {
-    broken_or(named, 7, 0)
+    broken_or(named, 7, None)
 }
 
-pub fn execution(named: bool, executed: u32) -> u8
-    ensures { result ≡ broken_by 24 (named ∷ good_quantity executed ∷ []) }
+pub fn execution(named: bool, executed: u32) -> Option<u8>
+    ensures { result ≡ offset_told (broken_by 24 (named ∷ good_quantity executed ∷ [])) }
 {
-    let sized = broken_or(good_quantity(executed), 21, 0);
+    let sized = broken_or(good_quantity(executed), 21, None);
     broken_or(named, 7, sized)
 }
 
-pub fn priced(named: bool, executed: u32, price: u64) -> u8
-    ensures { result ≡ broken_by 25 (named ∷ good_quantity executed ∷ good_price price ∷ []) }
+pub fn priced(named: bool, executed: u32, price: u64) -> Option<u8>
+    ensures { result ≡ offset_told (broken_by 25 (named ∷ good_quantity executed ∷ good_price price ∷ [])) }
 {
-    let priced = broken_or(good_price(price), 37, 0);
+    let priced = broken_or(good_price(price), 37, None);
     let sized = broken_or(good_quantity(executed), 21, priced);
     broken_or(named, 7, sized)
 }
 
-pub fn top(symbol: [u8; 14], ask: u64, bid: u64, unsolicited: u8) -> u8
-    ensures { result ≡ broken_by 26 (good_symbol symbol ∷ good_inside_price ask ∷ good_inside_price bid ∷ good_unsolicited unsolicited ∷ []) }
+pub fn top(symbol: [u8; 14], ask: u64, bid: u64, unsolicited: u8) -> Option<u8>
+    ensures { result ≡ offset_told (broken_by 26 (good_symbol symbol ∷ good_inside_price ask ∷ good_inside_price bid ∷ good_unsolicited unsolicited ∷ [])) }
 {
-    let told = broken_or(good_unsolicited(unsolicited), 45, 0);
+    let told = broken_or(good_unsolicited(unsolicited), 45, None);
     let bidden = broken_or(good_inside_price(bid), 33, told);
     let asked = broken_or(good_inside_price(ask), 21, bidden);
     broken_or(good_symbol(symbol), 7, asked)
 }
 
-pub fn trade(deal: &Deal) -> u8
-    ensures { result ≡ broken_by 27 (good_trade_side deal.now.side ∷ good_quantity deal.now.quantity ∷ good_symbol deal.now.symbol ∷ good_price deal.now.price ∷ []) }
+pub fn trade(deal: &Deal) -> Option<u8>
+    ensures { result ≡ offset_told (broken_by 27 (good_trade_side deal.now.side ∷ good_quantity deal.now.quantity ∷ good_symbol deal.now.symbol ∷ good_price deal.now.price ∷ [])) }
 {
-    let behind = dealt(8, deal, 0);
+    let behind = dealt(8, deal, None);
     broken_or(good_trade_side(deal.side), 7, behind)
 }
 
 // An execution, at the published price or at its own.
-fn of_execution(named: bool, executed: u32, terms: Terms) -> u8
-    ensures { result ≡ broken_by (type_of_terms terms) (named ∷ good_quantity executed ∷ map (number good_price) (price_of terms)) }
+fn of_execution(named: bool, executed: u32, terms: Terms) -> Option<u8>
+    ensures { result ≡ offset_told (broken_by (type_of_terms terms) (named ∷ good_quantity executed ∷ map (number good_price) (price_of terms))) }
 {
     match terms {
         Terms::Published => execution(named, executed),
@@ -104,16 +105,16 @@ fn of_execution(named: bool, executed: u32, terms: Terms) -> u8
     }
 }
 
-pub fn broken(message: Message) -> u8
-    ensures { result ≡ broken_of message }
+pub fn broken(message: Message) -> Option<u8>
+    ensures { result ≡ offset_told (broken_of message) }
 {
     let id = message.id;
     let symbol = message.symbol;
     let body = message.body;
     match body {
-        Body::Security { .. } => 0,
-        Body::SpinStart { .. } => 0,
-        Body::SpinEnd { .. } => 0,
+        Body::Security { .. } => None,
+        Body::SpinStart { .. } => None,
+        Body::SpinEnd { .. } => None,
         Body::TradingSession { session, .. } => trading_session(session),
         Body::Add {
             side,
@@ -161,7 +162,7 @@ pub fn broken(message: Message) -> u8
             };
             trade(&deal)
         }
-        Body::Other(_) => 0,
+        Body::Other(_) => None,
     }
 }
 
@@ -169,5 +170,5 @@ pub fn broken(message: Message) -> u8
 pub fn good(message: Message) -> bool
     ensures { result ≡ good_message message }
 {
-    broken(message) == 0
+    broken(message).is_none()
 }

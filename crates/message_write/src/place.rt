@@ -20,6 +20,7 @@ fn kind_of_terms(terms: Terms) -> Kind
 }
 
 // The type that a message is written with, if it is written.
+#[tactic(auto, using(crate::proofs::ByKind::kind_type))]
 fn kind_of(message: Message) -> Option<Kind>
     ensures { type_or_none result ≡ written_type message }
 {
@@ -39,6 +40,7 @@ fn kind_of(message: Message) -> Option<Kind>
     }
 }
 
+#[tactic(auto, unfolding(crate::specs::Writing::message_size))]
 fn size_of(kind: Kind) -> usize
     ensures { result ≡ message_size (type_number kind) }
 {
@@ -65,12 +67,13 @@ fn judge(message: Message, kind: Kind, n: usize, at: usize) -> Result<usize, Ref
 }
 
 // MessageSize and MessageType.
+#[tactic(auto, using(wire::proofs::Layouts::puts_row))]
 fn head(buf: &mut [u8], at: usize, size: u16, kind: u8)
     requires { at + width_of layouts.head ≤ length buf.old }
     ensures { buf.new ≡ put_row layouts.head (number_is size ∷ number_is kind ∷ []) buf.old at }
 {
-    wire::put_u16(buf, at, size);
-    wire::put_u8(buf, at + 2, kind);
+    wire::put_number(buf, at, size);
+    wire::put_number(buf, at + 2, kind);
 }
 
 // The call: every message, every buffer and every place have their answer. A text that the kind has

@@ -50,17 +50,12 @@ pub fn fields(s: &[u8]) -> Header
     requires { 12 ≤ length s.now }
     ensures { result ≡ header_in s.now }
 {
-    let size = wire::u16_at(s, 0);
-    let seq = wire::u32_at(s, 2);
-    let flag = wire::u8_at(s, 6);
-    let messages = wire::u8_at(s, 7);
-    let milli = wire::u32_at(s, 8);
     Header {
-        size,
-        seq,
-        flag,
-        messages,
-        milli,
+        size: wire::number_at(s, 0),
+        seq: wire::number_at(s, 2),
+        flag: wire::number_at(s, 6),
+        messages: wire::number_at(s, 7),
+        milli: wire::number_at(s, 8),
     }
 }
 

@@ -32,11 +32,11 @@ fn put(header: Header, buf: &mut [u8])
     requires { 12 ≤ length buf.old }
     ensures { buf.new ≡ put_row layout (row_of header) buf.old 0 }
 {
-    wire::put_u16(buf, 0, header.size);
-    wire::put_u32(buf, 2, header.seq);
-    wire::put_u8(buf, 6, header.flag);
-    wire::put_u8(buf, 7, header.messages);
-    wire::put_u32(buf, 8, header.milli);
+    wire::put_number(buf, 0, header.size);
+    wire::put_number(buf, 2, header.seq);
+    wire::put_number(buf, 6, header.flag);
+    wire::put_number(buf, 7, header.messages);
+    wire::put_number(buf, 8, header.milli);
 }
 
 // The call: every header and every buffer have their answer.

@@ -15,7 +15,7 @@ fn step_by(s: &[u8], sizes: &Payloads, at: usize) -> Option<usize>
     if left < message::HEADER {
         return None;
     }
-    let size = wire::u16_at(s, at) as usize;
+    let size = wire::number_at::<u16>(s, at) as usize;
     if size < message::HEADER {
         return None;
     }
@@ -25,7 +25,7 @@ fn step_by(s: &[u8], sizes: &Payloads, at: usize) -> Option<usize>
     if left < size {
         return None;
     }
-    if message::table::too_short(sizes, wire::u8_at(s, at + 2), size) {
+    if message::table::too_short(sizes, wire::number_at(s, at + 2), size) {
         return None;
     }
     Some(size)

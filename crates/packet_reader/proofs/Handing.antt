@@ -6,7 +6,7 @@ use mathlib.Core.List.{List, [], ◌∷◌}
 use mathlib.Core.Logic.{⊎_elim}
 use Prim.Native.Nat.{ℕ, zero, suc, ◌+◌, ◌-◌, ◌≤◌, ◌<◌}
 use native.Mathlib.Omega.{arith}
-use borrow.Author.Tests.{eqb-true, eqb-false}
+use borrow.Author.Tests.{eq-eqb, eqb-true, eqb-false}
 use lib.Dec.{eqb}
 use lib.ListN.{length, get_or}
 use denote.Ref.{Bor}
@@ -14,15 +14,16 @@ use Rattle.packet.specs.Header.{header_in, heartbeat}
 use Rattle.packet.specs.Walk.{broken_at, frames_from, step_at, walk_from}
 use Rattle.packet.specs.Walk as walk
 use Rattle.std.proofs.Common.{Option, Some, None}
+use Rattle.std.specs.Iterator.{MakesProgress, at_most}
 use Rattle.refusals.specs.Refusals.{refusal_by, refusal_or_none}
 use Rattle.refusals.specs.declared.Refusal.{Refusal}
 use Rattle.packet.proofs.Walking.{Lies, lies}
 use Rattle.packet_reader.specs.Reading.{message_of, messages_of, no_message, refusal_of}
-use Rattle.packet_reader.specs.Cursors.{after_of, behind_of, frame_at, part_if, size_at, start_by, start_of}
-use Rattle.packet_reader.specs.Steps.{next_part, opened, reader_behind, stepped}
+use Rattle.packet_reader.specs.Cursors.{Lent, lent, lent_if, after_of, behind_of, frame_at, part_if, size_at, start_by, start_of}
+use Rattle.packet_reader.specs.Steps.{next_part, opened, reader_behind, step_of, stepped}
 use Rattle.packet_reader.specs.declared.cursor.Cursor.{Cursor}
 use Rattle.packet_reader.specs.declared.read.Reader.{Reader}
-use Rattle.packet_reader.proofs.Frames.{frame_is, frame_none, moves, size_is, size_none, size_of, stays}
+use Rattle.packet_reader.proofs.Frames.{frame_is, frame_none, moves, size_is, size_none, size_of, stays, there}
 use Rattle.packet_reader.proofs.Refusals.{either, heartbeat_empty, numbered}
 
 module _ (s : List ℕ) where
@@ -210,3 +211,19 @@ module _ (s : List ℕ) where
 
   pub listed_at : (k : ℕ) {c : Cursor} → c ≡ after_of k s (start_of s) → frame_at s c ≡ message_of s k
   listed_at k told = ap (frame_at s) told ∙ listed s k
+
+some_part : (p : Bor (List ℕ)) (f : ℕ × ℕ) {l : Lent} → Some l ≡ part_if p f → f.1 ≡ 0 → ⊥
+some_part p f {l} told z =
+    let no : ◌≡◌ {A = Option Lent} (Some l) None = simp (eq-eqb f.1 0 z) at told in
+    let y : ◌≡◌ {A = ℕ} 0 1 = cc in
+    omega arith
+
+-- a reader that hands out a message has one less left, so it comes to an end
+pub progress : (can : Reader → Type 0) (r behind : Reader) (message : Option (Bor (List ℕ))) → ((x : Reader) → can x) → (lent_if message, behind) ≡ step_of r → MakesProgress can (λ x. at_most x.cursor.left) r message behind
+progress can r behind None may told = record { on = λ finite. tt; keeps = tt; rests = λ finite. tt }
+progress can r behind (Some x) may told =
+    let s : List ℕ = r.packet.now in
+    let some : (frame_at s r.cursor).1 ≡ 0 → ⊥ = some_part r.packet (frame_at s r.cursor) {l = lent x} (ap (λ (y : Option Lent × Reader). y.0) told) in
+    let one : 1 ≤ r.cursor.left = (there s r.cursor (λ e. some (size_of s r.cursor ∙ e))).some in
+    let left : behind.cursor.left ≡ r.cursor.left - 1 = ap (λ (y : Option Lent × Reader). y.1.cursor.left) told ∙ sym (ap (λ (c : Cursor). c.left) (moves s r.cursor some)) in
+    record { on = λ finite. (may behind, tt, omega (arith, one, left)); keeps = may behind; rests = λ finite. tt }

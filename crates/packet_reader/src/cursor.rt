@@ -33,7 +33,7 @@ pub fn start(s: &[u8]) -> Cursor
         },
         Ok(()) => Cursor {
             at: packet::HEADER,
-            left: wire::u8_at(s, 7),
+            left: wire::number_at(s, 7),
             refusal: None,
         },
     }

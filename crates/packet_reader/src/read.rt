@@ -1,5 +1,7 @@
 // A reader: a lent packet, and how far into it one has come.
 ghost use Rattle.std.specs.Prelude.{◌≡◌};
+ghost use Rattle.std.specs.Iterator.{at_most};
+ghost use Rattle.packet_reader.specs.Cursors.{lent_if};
 ghost use Rattle.packet_reader.specs.Steps.{opened, seen, step_of};
 
 use crate::cursor;
@@ -47,5 +49,20 @@ pub fn step<'a>(reader: Reader<'a>) -> Handed<'a>
             packet: reader.packet,
             cursor,
         },
+    }
+}
+
+// A reader hands out message after message.
+impl<'a> Iterator for Reader<'a> {
+    type Item = &'a [u8];
+
+    ghost next_gives = { λ reader message behind. (lent_if message, behind) ≡ step_of reader };
+
+    ghost remaining = { λ reader. at_most reader.cursor.left };
+
+    fn next(&mut self) -> Option<&'a [u8]> {
+        let handed = step(*self);
+        *self = handed.rest;
+        handed.message
     }
 }

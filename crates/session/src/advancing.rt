@@ -102,8 +102,7 @@ pub fn advance(
     loop {
         let place = (next % NUMBERS) as usize;
         let here = rest;
-        let size = session_message::size(window, packets, here, place);
-        if size == 0 {
+        let Some(size) = session_message::size(window, packets, here, place) else {
             close(answers, turn, next);
             if done(packets, single, turn) {
                 room[NEXT] = next;
@@ -115,16 +114,16 @@ pub fn advance(
                 left: turn.direct,
                 from: turn.from,
             };
-        } else {
-            session_message::fetch(text, window, here, place);
-            session_message::free(window, here, place);
-            rest = session_message::onward(here, size);
-            let bytes = session_message::message(text, packets, here, size);
-            let touched = apply(room, bytes, next);
-            next += 1;
-            if let Some(touch) = touched {
-                return at_hand(touch, here, size, next, turn, rest);
-            }
+            continue;
+        };
+        session_message::fetch(text, window, here, place);
+        session_message::free(window, here, place);
+        rest = session_message::onward(here, size);
+        let bytes = session_message::message(text, packets, here, size);
+        let touched = apply(room, bytes, next);
+        next += 1;
+        if let Some(touch) = touched {
+            return at_hand(touch, here, size, next, turn, rest);
         }
     }
 }

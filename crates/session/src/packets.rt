@@ -46,20 +46,16 @@ fn answer_by(applied: u64, refusal: u64) -> Result<u64, Refusal>
 }
 
 // One packet: the lent bytes are the whole of it.
-pub fn take(session: Session, room: &mut Room, window: &mut Window, packet: &[u8]) -> Taken
+pub fn take(mut session: Session, room: &mut Room, window: &mut Window, packet: &[u8]) -> Taken
     requires { Ruled (held session room.old window.old) }
     ensures taken { held result.session room.new window.new ≡ rep (take_one overnight (view (held session room.old window.old)) packet.now) }
     ensures answer { result.answer ≡ answer_of (view (held session room.old window.old)) packet.now }
     ensures rule { Ruled (held result.session room.new window.new) }
 {
     let mut answers = [0u64; 4];
-    let ran = run(session, room, window, packet, true, 1, &mut answers, 0);
-    let after = ran.session;
+    run(&mut session, room, window, packet, true, 1, &mut answers, 0);
     let answer = answer_by(answers[0], answers[1]);
-    Taken {
-        session: after,
-        answer,
-    }
+    Taken { session, answer }
 }
 
 // None is taken where the answers do not fit.
@@ -83,7 +79,7 @@ pub fn count_of(fits: bool, count: usize) -> Result<usize, Refusal>
 // all that there are. Four numbers answer each: how many messages were applied, the refusal or 0, then
 // next and end. None is taken where the answers to so many do not fit.
 pub fn burst(
-    session: Session,
+    mut session: Session,
     room: &mut Room,
     window: &mut Window,
     packets: &[u8],
@@ -99,12 +95,11 @@ pub fn burst(
 {
     let fits = count <= answers.len() / 4;
     let due = due_of(fits, count);
-    let ran = run(session, room, window, packets, false, due, answers, 0);
-    let after = ran.session;
+    let ended = run(&mut session, room, window, packets, false, due, answers, 0);
     TakenAll {
-        session: after,
-        count: count_of(fits, ran.taken),
-        bytes: ran.at,
+        session,
+        count: count_of(fits, ended.taken),
+        bytes: ended.at,
     }
 }
 
@@ -116,7 +111,7 @@ pub fn most_due(count: u64) -> usize
 }
 
 // Up to a count of the messages that wait from next on, in their order.
-pub fn apply(session: Session, room: &mut Room, window: &mut Window, count: u64) -> AppliedSome
+pub fn apply(mut session: Session, room: &mut Room, window: &mut Window, count: u64) -> AppliedSome
     requires { Ruled (held session room.old window.old) }
     ensures applied { held result.session room.new window.new ≡ rep (apply_some overnight count (view (held session room.old window.old))) }
     ensures count { result.count ≡ applied_by (view (held session room.old window.old)) count }
@@ -126,10 +121,18 @@ pub fn apply(session: Session, room: &mut Room, window: &mut Window, count: u64)
     let mut answers = [0u64; 1];
     let before = room[NEXT];
     let due = most_due(count);
-    let ran = run(session, room, window, &nothing, false, 0, &mut answers, due);
-    let after = ran.session;
+    run(
+        &mut session,
+        room,
+        window,
+        &nothing,
+        false,
+        0,
+        &mut answers,
+        due,
+    );
     AppliedSome {
-        session: after,
+        session,
         count: room[NEXT] - before,
     }
 }

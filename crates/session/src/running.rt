@@ -1,4 +1,4 @@
-// Parts: the engine, with the order table by value. It writes nothing but what a packet or a message changes.
+// Parts: the engine. No order is copied but those that a message touches, and nothing is written but what a packet or a message changes.
 ghost use Rattle.std.specs.Prelude.{◌≡◌, ◌-◌, ◌≤◌, length};
 ghost use Rattle.wire.specs.Number.{splice};
 ghost use Rattle.merge.specs.State.{apply_up_to, take_all};
@@ -12,14 +12,6 @@ use crate::state::Session;
 use book::tables::no_order;
 use book_room::room::Room;
 use window::places::Window;
-
-// Where a run ends: how many packets it took, and where the bytes behind them begin.
-#[derive(Clone, Copy)]
-pub struct Ran {
-    pub session: Session,
-    pub taken: usize,
-    pub at: usize,
-}
 
 pub fn ended(count: usize, point: Point) -> Ended
     requires { point.turn.left ≤ count }
@@ -36,7 +28,7 @@ pub fn ended(count: usize, point: Point) -> Ended
 // all that there are, one after the other. The engine stops at each message that touches an order, and what
 // that message does is stored here.
 pub fn run(
-    mut session: Session,
+    session: &mut Session,
     room: &mut Room,
     window: &mut Window,
     packets: &[u8],
@@ -44,11 +36,11 @@ pub fn run(
     count: usize,
     answers: &mut [u64],
     due: usize,
-) -> Ran
-    requires ruled { Ruled (held session room.old window.old) }
+) -> Ended
+    requires ruled { Ruled (held session.old room.old window.old) }
     requires runs { Runs count (length answers.old) }
-    ensures held { held result.session room.new window.new ≡ rep (take_all overnight (apply_up_to feed due (view (held session room.old window.old))) (packets_from single count 0 packets.now)) }
-    ensures answers { answers.new ≡ splice answers.old 0 (rows_of (apply_up_to feed due (view (held session room.old window.old))) (packets_from single count 0 packets.now)) }
+    ensures held { held session.new room.new window.new ≡ rep (take_all overnight (apply_up_to feed due (view (held session.old room.old window.old))) (packets_from single count 0 packets.now)) }
+    ensures answers { answers.new ≡ splice answers.old 0 (rows_of (apply_up_to feed due (view (held session.old room.old window.old))) (packets_from single count 0 packets.now)) }
     ensures taken { result.taken ≡ length (packets_from single count 0 packets.now) }
     ensures at { result.at ≡ end_from single count 0 packets.now }
 {
@@ -57,12 +49,7 @@ pub fn run(
     loop {
         point = advance(room, window, packets, single, &mut text, answers, point);
         let Some(hand) = point.at_hand else {
-            let end = ended(count, point);
-            return Ran {
-                session,
-                taken: end.taken,
-                at: end.at,
-            };
+            return ended(count, point);
         };
         let place = hand.place;
         let there = session.orders[place];

@@ -7,6 +7,7 @@ use book::tables::Order;
 use book_deciding::reading::order_of;
 use book_room::changing::{Act, change};
 use book_room::room::Room;
+use message::Kind;
 use window::places::PLACE;
 
 // What is to be done at the place: the last order moves there, or this record is put there.
@@ -29,17 +30,15 @@ pub fn settle<'a>(
 {
     let bytes = session_message::message(text, packets, hand.here, hand.size);
     let name = hand.name;
-    let kind = wire::u8_at(bytes, 2);
-    if kind == 21 {
+    if wire::u8_at(bytes, 2) == Kind::Add.number() {
         return Outcome::Stores(order_of(bytes, name.key));
     }
     match change(room, bytes, name, there.shares, there.price, point.next - 1) {
-        Act::Replace(_, shares, price) => {
-            let mut order = there;
-            order.shares = shares;
-            order.price = price;
-            Outcome::Stores(order)
-        }
+        Act::Replace(_, shares, price) => Outcome::Stores(Order {
+            shares,
+            price,
+            ..there
+        }),
         Act::Remove(_, last) => Outcome::Moves { last },
         Act::Nothing => Outcome::Stores(there),
     }

@@ -15,6 +15,8 @@ use window::places::Window;
 // The records of the live orders. All else is lent: the room of numbers (next, end, the counts, the code,
 // the faults, the rule, the look-ups, the insides) and the window of messages that wait for their turn. A host holds
 // the three together and lends the same room and window with each call.
+//
+// They are no struct with an invariant: a C host lends each at a place of its own, so each contract says `Ruled` of the three.
 #[repr(C)]
 #[derive(Clone, Copy)]
 pub struct Session {

@@ -22,6 +22,7 @@ pub fn apply(room: &mut Room, bytes: &[u8], number: u64) -> Option<Touch>
     requires { (next end : ℕ) × (b : Book) × Houses room.old next end b number bytes.now }
     ensures { (next end : ℕ) (b : Book) → Houses room.old next end b number bytes.now → Touched room.new next end b number bytes.now result }
 {
+    // By its number: of a pattern of several variants of `Kind` the proof learns nothing.
     let kind = wire::u8_at(bytes, 2);
     match kind {
         21 => {

@@ -13,8 +13,8 @@ use refusals::Refusal;
 use session::packets::{count_of, due_of};
 use window::places::Window;
 use window_admitting::admit;
-use window_taking::admitting::Apply;
 use window_keeping::keep_packets;
+use window_taking::admitting::Apply;
 
 #[derive(Clone, Copy)]
 pub struct KeptAll {

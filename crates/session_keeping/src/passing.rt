@@ -46,7 +46,7 @@ fn applies(window: &Window, packet: &[u8], next: u64) -> bool
     if carries(packet, next) {
         return true;
     }
-    size_at(window, (next % NUMBERS) as usize) != 0
+    size_at(window, (next % NUMBERS) as usize).is_some()
 }
 
 pub fn pass(room: &mut Room, window: &mut Window, packet: &[u8]) -> Result<Passed, Refusal>

@@ -3,7 +3,7 @@
 #![tactic(auto)]
 
 ghost use Rattle.std.specs.Prelude.{◌≡◌, ◌<◌, ◌≤◌, length};
-ghost use Rattle.window.specs.Window.{size_at};
+ghost use Rattle.window.specs.Window.{size_at, some_size};
 ghost use Rattle.session_message.specs.AtNext.{due_size, size_in, text_after, window_after, onward_of, message_at, Begins, Goes, Lies};
 
 use window::places;
@@ -11,6 +11,7 @@ use window::places::{PLACE, Window};
 
 // What is left to apply: how many messages straight from the packet at hand, and where the first of them
 // begins in the lent bytes; where none is left there, how many of those that wait are due.
+// Two numbers and no enum, which would be no plainer: what the engine keeps is said of both at once (window_taking's Ahead).
 #[derive(Clone, Copy)]
 pub struct PacketRest {
     pub left: usize,
@@ -18,43 +19,41 @@ pub struct PacketRest {
 }
 
 // The size of what waits at a place, where one more is due.
-fn size_due(window: &Window, place: usize, due: usize) -> usize
+fn size_due(window: &Window, place: usize, due: usize) -> Option<usize>
     requires { place < 256 }
-    ensures { result ≡ due_size due (size_at window.now place) }
+    ensures { result ≡ some_size (due_size due (size_at window.now place)) }
 {
     if due == 0 {
-        return 0;
+        return None;
     }
     places::size_at(window, place)
 }
 
-// The size of the message at next, 0 where there is none or none is due.
-pub fn size(window: &Window, s: &[u8], rest: PacketRest, place: usize) -> usize
+// The size of the message at next, if there is one and it is due.
+pub fn size(window: &Window, s: &[u8], rest: PacketRest, place: usize) -> Option<usize>
     requires place_bound { place < 256 }
     requires begins { Begins s.now rest }
-    ensures { result ≡ size_in window.now s.now rest place }
+    ensures { result ≡ some_size (size_in window.now s.now rest place) }
 {
     if rest.left == 0 {
         return size_due(window, place, rest.from);
     }
-    let from = rest.from;
-    wire::u16_at(s, from) as usize
+    places::some_size(wire::number_at::<u16>(s, rest.from) as usize)
 }
 
 // What stands at a place of the window copied into `text`, before the place is made free.
 pub fn fetch(text: &mut [u8; PLACE], window: &Window, rest: PacketRest, place: usize)
-    requires { (place < 256) × (length text.old ≡ 128) }
+    requires { place < 256 }
     ensures { text.new ≡ text_after window.now text.old rest place }
 {
     if rest.left != 0 {
         return;
     }
-    let start = place * PLACE;
-    text.copy_from_slice(&window[start..start + PLACE]);
+    *text = wire::text_at(window, place * PLACE);
 }
 
 pub fn free(window: &mut Window, rest: PacketRest, place: usize)
-    requires { (place < 256) × (length window.old ≡ 32768) }
+    requires { place < 256 }
     ensures { window.new ≡ window_after window.old rest place }
 {
     if rest.left == 0 {

@@ -23,9 +23,8 @@ use Rattle.message.specs.declared.kinds.Message.{Message}
 use Rattle.message.proofs.Cases.{by_type, Unopened}
 use Rattle.message_write.specs.Writing.{buffer_after, write_of}
 use Rattle.single.specs.Given.{bytes_from, given_buffer, given_of, message_given, message_if, row_from, too_wide, type_given, value_from, wide_from}
-use Rattle.single.specs.Words.{total, widths_by, widths_in, widths_of, words_of, Laid}
-use Rattle.single.specs.declared.words.Words.{Words}
-use Rattle.single.proofs.Laying.{laid, layout-none, widths_are}
+use Rattle.single.specs.Words.{total, widths_in, widths_of, Laid}
+use Rattle.single.proofs.Laying.{laid, layout-none}
 
 -- ---- 55 bytes are enough for every type
 
@@ -39,19 +38,19 @@ enough : (t : ℕ) → too_short t 55 ≡ false
 unfolding payload_of
 enough = by_type (λ t. too_short t 55 ≡ false) refl refl refl refl refl refl refl refl refl refl refl (λ t h. unlisted_short t h (eqb t 28) refl)
 
-pub words_laid : (t : ℕ) {words : Words} → words ≡ words_of t → Laid words 55
-words_laid t e = subst (λ (words : Words). Laid words 55) (sym e) (laid t 55 (omega arith) (enough t))
+pub words_laid : (t : ℕ) {words : List ℕ} → words ≡ widths_of (layout_of t) → Laid words 55
+words_laid t e = subst (λ (words : List ℕ). Laid words 55) (sym e) (laid t 55 (omega arith) (enough t))
 
 length_given : (ws : List ℕ) (k : ℕ) (ns : List ℕ) → length (bytes_from ws k ns) ≡ total ws
 length_given [] k ns = refl
 length_given (w ∷ ws) k ns =
     length-append (be w (get_or ns k 0)) (bytes_from ws (suc k) ns) ∙ ap (λ (n : ℕ). n + length (bytes_from ws (suc k) ns)) (length-be w (get_or ns k 0)) ∙ ap (λ (n : ℕ). w + n) (length_given ws (suc k) ns)
 
-pub filled : (t : ℕ) (ns : List ℕ) {words : Words} {bytes : List ℕ} → words ≡ words_of t → bytes ≡ splice (replicate 55 0) 3 (bytes_from (widths_by words) 1 ns) → too_short t (length bytes) ≡ false
+pub filled : (t : ℕ) (ns : List ℕ) {words bytes : List ℕ} → words ≡ widths_of (layout_of t) → bytes ≡ splice (replicate 55 0) 3 (bytes_from words 1 ns) → too_short t (length bytes) ≡ false
 filled t ns {words} {bytes} are put =
     let zeros : List ℕ = replicate 55 0 in
-    let within : 3 + length (bytes_from (widths_by words) 1 ns) ≤ 55 = omega (arith, (words_laid t are).room, length_given (widths_by words) 1 ns) in
-    let long : length bytes ≡ 55 = ap length put ∙ length-splice zeros 3 (bytes_from (widths_by words) 1 ns) within in
+    let within : 3 + length (bytes_from words 1 ns) ≤ 55 = omega (arith, (words_laid t are).room, length_given words 1 ns) in
+    let long : length bytes ≡ 55 = ap length put ∙ length-splice zeros 3 (bytes_from words 1 ns) within in
     ap (too_short t) long ∙ enough t
 
 -- ---- the row that the numbers are
@@ -131,9 +130,9 @@ module _ (ns : List ℕ) where
   unfolding too_wide
   type_wide h = by_wide (simp (le-leb 256 (type_given ns) h))
 
-  module _ (small : type_given ns < 256) {words : Words} (are : words ≡ words_of (type_given ns)) {r : Bool} (said : r ≡ wide_from (widths_by words) 1 ns) where
+  module _ (small : type_given ns < 256) {words : List ℕ} (are : words ≡ widths_of (layout_of (type_given ns))) {r : Bool} (said : r ≡ wide_from words 1 ns) where
     told_wide : r ≡ wide_from (widths_of (layout_of (type_given ns))) 1 ns
-    told_wide = said ∙ ap (λ (ws : List ℕ). wide_from ws 1 ns) (ap widths_by are ∙ widths_are (type_given ns))
+    told_wide = said ∙ ap (λ (ws : List ℕ). wide_from ws 1 ns) are
 
     wide_is : too_wide ns ≡ r
     unfolding too_wide
@@ -142,11 +141,11 @@ module _ (ns : List ℕ) where
     pub field_wide : r ≡ true → Err RuleBroken ≡ message_if ns
     field_wide e = by_wide (wide_is ∙ e)
 
-    pub all_fit : r ≡ false → {bytes : List ℕ} → bytes ≡ splice (replicate 55 0) 3 (bytes_from (widths_by words) 1 ns) → {m : Message} → m ≡ fields_of (type_given ns) bytes → Ok m ≡ message_if ns
+    pub all_fit : r ≡ false → {bytes : List ℕ} → bytes ≡ splice (replicate 55 0) 3 (bytes_from words 1 ns) → {m : Message} → m ≡ fields_of (type_given ns) bytes → Ok m ≡ message_if ns
     all_fit e {bytes} put {m} read =
         let is : m ≡ message_given ns =
         read
-        ∙ message_there (type_given ns) ns (put ∙ ap (λ (ws : List ℕ). splice (replicate 55 0) 3 (bytes_from ws 1 ns)) (ap widths_by are ∙ widths_are (type_given ns))) (sym told_wide ∙ e) in
+        ∙ message_there (type_given ns) ns (put ∙ ap (λ (ws : List ℕ). splice (replicate 55 0) 3 (bytes_from ws 1 ns)) are) (sym told_wide ∙ e) in
         ap Ok is ∙ sym (simp (wide_is ∙ e))
 
 -- ---- what writing answers

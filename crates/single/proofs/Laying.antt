@@ -2,12 +2,12 @@
 -- Assumes nothing.
 use mathlib.Core.Path.{◌≡◌, refl, ap, ◌∙◌, sym, subst}
 use mathlib.Core.Bool.{Bool, true, false, ◌&&◌, ◌||◌, true≢false}
-use mathlib.Core.List.{List, [], ◌∷◌, ◌++◌}
+use mathlib.Core.List.{List, [], ◌∷◌}
 use mathlib.Core.Logic.{◌⊎◌, inl, inr}
 use Prim.Native.Nat.{ℕ, ◌+◌, ◌≤◌}
 use borrow.Author.Tests.{eqb-true, leb-true}
 use lib.Dec.{eqb, leb}
-use lib.ListN.{length, replicate, set, take}
+use lib.ListN.{length, set}
 use Rattle.wire.specs.Layout.{Field}
 use Rattle.message.specs.Layouts.{layout_of, type_in}
 use Rattle.message.specs.Reading.{read_of}
@@ -19,8 +19,7 @@ use Rattle.message.specs.declared.kinds.Message.{Message}
 use Rattle.message.proofs.Cases.{by_type, room, unlisted, unopened, Unopened}
 use Rattle.message.proofs.Readings.{taken, Taken}
 use Rattle.single.specs.Over.{over, over_from}
-use Rattle.single.specs.Words.{message_numbers, message_told, total, widths_by, widths_of, words_at, words_of, Laid, Width, Widths}
-use Rattle.single.specs.declared.words.Words.{Words}
+use Rattle.single.specs.Words.{message_numbers, message_told, total, widths_of, words_at, Laid, Width, Widths}
 
 -- ---- a width that is none of the first three
 
@@ -38,16 +37,6 @@ last (inr (inr (inr e))) h = e
 pub layout-none : (t : ℕ) → Unopened t → [] ≡ layout_of t
 unfolding layout_of
 layout-none t h = unlisted _ _ _ _ _ _ _ _ _ _ _ [] t h
-
-pub words_none : (t : ℕ) → Unopened t → record { widths = replicate 13 0; count = 0 } ≡ words_of t
-unfolding words_of
-words_none t h = ap (λ (fs : List Field). record { widths = take 13 (widths_of fs ++ replicate 13 0); count = length (widths_of fs) }) (layout-none t h)
-
-pub widths_are : (t : ℕ) → widths_by (words_of t) ≡ widths_of (layout_of t)
-unfolding words_of layout_of
-widths_are =
-    by_type (λ t. widths_by (words_of t) ≡ widths_of (layout_of t)) refl refl refl refl refl refl refl refl refl refl refl
-    (λ t h. sym (ap widths_by (words_none t h)) ∙ ap widths_of (layout-none t h))
 
 -- all of them are widths, and as many as there may be
 is_width : ℕ → Bool
@@ -86,36 +75,35 @@ unfolding all_widths
 are_widths [] h = tt
 are_widths (w ∷ ws) h = let e = both (is_width w) (all_widths ws) h in (is_width_lem w e.0, are_widths ws e.1)
 
-sound : Words → Bool
-sound words = leb words.count 13 && (eqb (length words.widths) 13 && all_widths (widths_by words))
+sound : List ℕ → Bool
+sound ws = leb (length ws) 13 && all_widths ws
 
-laid_by : (words : Words) (n : ℕ) → sound words ≡ true → 3 ≤ n → 3 + total (widths_by words) ≤ n → Laid words n
+laid_by : (ws : List ℕ) (n : ℕ) → sound ws ≡ true → 3 ≤ n → 3 + total ws ≤ n → Laid ws n
 unfolding sound
-laid_by words n h head room =
-    let e = both (leb words.count 13) _ h in
-    let f = both (eqb (length words.widths) 13) _ e.1 in
-    record { most = leb-true _ _ e.0; long = eqb-true _ _ f.0; widths = are_widths _ f.1; head = head; room = room }
+laid_by ws n h head room =
+    let e = both (leb (length ws) 13) _ h in
+    record { most = leb-true _ _ e.0; widths = are_widths _ e.1; head = head; room = room }
 
 -- a message that is not too short has room for its fields
 abbrev IsLaid : ℕ → Type 0
-IsLaid t = (n : ℕ) → 3 ≤ n → too_short t n ≡ false → Laid (words_of t) n
+IsLaid t = (n : ℕ) → 3 ≤ n → too_short t n ≡ false → Laid (widths_of (layout_of t)) n
 
 pub laid : (t : ℕ) → IsLaid t
-unfolding words_of layout_of payload_of sound all_widths is_width
+unfolding layout_of payload_of sound all_widths is_width
 laid =
     by_type IsLaid
-    (λ n l h. laid_by (words_of 9) n refl l (room 9 n refl refl h))
-    (λ n l h. laid_by (words_of 11) n refl l (room 11 n refl refl h))
-    (λ n l h. laid_by (words_of 12) n refl l (room 12 n refl refl h))
-    (λ n l h. laid_by (words_of 20) n refl l (room 20 n refl refl h))
-    (λ n l h. laid_by (words_of 21) n refl l (room 21 n refl refl h))
-    (λ n l h. laid_by (words_of 22) n refl l (room 22 n refl refl h))
-    (λ n l h. laid_by (words_of 23) n refl l (room 23 n refl refl h))
-    (λ n l h. laid_by (words_of 24) n refl l (room 24 n refl refl h))
-    (λ n l h. laid_by (words_of 25) n refl l (room 25 n refl refl h))
-    (λ n l h. laid_by (words_of 26) n refl l (room 26 n refl refl h))
-    (λ n l h. laid_by (words_of 27) n refl l (room 27 n refl refl h))
-    (λ t u n l h. subst (λ (words : Words). Laid words n) (words_none t u) (laid_by (record { widths = replicate 13 0; count = 0 }) n refl l l))
+    (λ n l h. laid_by (widths_of (layout_of 9)) n refl l (room 9 n refl refl h))
+    (λ n l h. laid_by (widths_of (layout_of 11)) n refl l (room 11 n refl refl h))
+    (λ n l h. laid_by (widths_of (layout_of 12)) n refl l (room 12 n refl refl h))
+    (λ n l h. laid_by (widths_of (layout_of 20)) n refl l (room 20 n refl refl h))
+    (λ n l h. laid_by (widths_of (layout_of 21)) n refl l (room 21 n refl refl h))
+    (λ n l h. laid_by (widths_of (layout_of 22)) n refl l (room 22 n refl refl h))
+    (λ n l h. laid_by (widths_of (layout_of 23)) n refl l (room 23 n refl refl h))
+    (λ n l h. laid_by (widths_of (layout_of 24)) n refl l (room 24 n refl refl h))
+    (λ n l h. laid_by (widths_of (layout_of 25)) n refl l (room 25 n refl refl h))
+    (λ n l h. laid_by (widths_of (layout_of 26)) n refl l (room 26 n refl refl h))
+    (λ n l h. laid_by (widths_of (layout_of 27)) n refl l (room 27 n refl refl h))
+    (λ t u n l h. subst (λ (fs : List Field). Laid (widths_of fs) n) (layout-none t u) (laid_by [] n refl l l))
 
 -- the numbers of a message are those that stand in its bytes
 abbrev NumbersAre : ℕ → Type 0
@@ -129,15 +117,15 @@ numbers_are =
 
 -- ---- a message told
 
-pub tell_is : (s old : List ℕ) {kind : ℕ} {words : Words} {after : List ℕ} → kind ≡ type_in s → words ≡ words_of kind → after ≡ over_from 1 (words_at (widths_by words) 3 s) (set old 0 kind)
+pub tell_is : (s old : List ℕ) {kind : ℕ} {words after : List ℕ} → kind ≡ type_in s → words ≡ widths_of (layout_of kind) → after ≡ over_from 1 (words_at words 3 s) (set old 0 kind)
     → after ≡ over (type_in s ∷ words_at (widths_of (layout_of (type_in s))) 3 s) old
 tell_is s old {kind} e are told =
     told
-    ∙ ap (λ (ws : List ℕ). over_from 1 (words_at ws 3 s) (set old 0 kind)) (ap widths_by are ∙ widths_are kind)
+    ∙ ap (λ (ws : List ℕ). over_from 1 (words_at ws 3 s) (set old 0 kind)) are
     ∙ ap (λ (t : ℕ). over_from 1 (words_at (widths_of (layout_of t)) 3 s) (set old 0 t)) e
 
 module _ (s : List ℕ) where
-  pub read_laid : (m : Message) → Ok m ≡ read_of s → Laid (words_of (type_in s)) (length s)
+  pub read_laid : (m : Message) → Ok m ≡ read_of s → Laid (widths_of (layout_of (type_in s))) (length s)
   read_laid m told = let t : Taken s m = taken s m (sym told) in laid (type_in s) (length s) t.least t.enough
 
   pub read_accepted : (m : Message) (old : List ℕ) {after : List ℕ} → Ok m ≡ read_of s → after ≡ over (type_in s ∷ words_at (widths_of (layout_of (type_in s))) 3 s) old → after ≡ message_told (read_of s) old

@@ -23,7 +23,7 @@ use Rattle.message.proofs.Readings.{taken, Taken}
 use Rattle.single.specs.Given.{bytes_from, message_given, row_from, too_wide, wide_from}
 use Rattle.single.specs.Words.{message_numbers, total, widths_of, words_at}
 use Rattle.single.proofs.Giving.{encode-is, row_fits}
-use Rattle.single.proofs.Laying.{laid, layout-none, numbers_are, widths_are}
+use Rattle.single.proofs.Laying.{laid, layout-none, numbers_are}
 
 -- the widths of a layout come to its bytes
 widths_total : (t : ℕ) → width_of (layout_of t) ≡ total (widths_of (layout_of t))
@@ -100,7 +100,7 @@ told_given s m rest bytes read =
     let f : Taken s m = taken s m read in
     let t = type_in s in
     let l = laid t (length s) f.least f.enough in
-    let room : 3 + total (widths_of (layout_of t)) ≤ length s = subst (λ (ws : List ℕ). 3 + total ws ≤ length s) (widths_are t) l.room in
+    let room : 3 + total (widths_of (layout_of t)) ≤ length s = l.room in
     let numbers : message_numbers m ≡ t ∷ words_at (widths_of (layout_of t)) 3 s = sym (ap message_numbers f.fields) ∙ numbers_are t s in
     let byte : t < 256 = small s bytes 2 1 (omega (arith, f.least)) in (
       ap (λ (ns : List ℕ). too_wide (ns ++ rest)) numbers ∙ simp (lt-leb 256 t byte) (fit s bytes t rest room),

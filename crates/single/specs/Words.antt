@@ -1,14 +1,12 @@
 -- The fields of a message as numbers of 1, 2, 4 or 8 bytes, in the order of its layout.
 -- Assumes nothing.
-use Rattle.std.specs.Prelude.{◌≡◌, cond, List, [], ◌∷◌, ◌++◌, ◌⊎◌, ℕ, ◌+◌, ◌≤◌, eqb, length, replicate, take, Result}
+use Rattle.std.specs.Prelude.{◌≡◌, cond, List, [], ◌∷◌, ◌++◌, ◌⊎◌, ℕ, ◌+◌, ◌≤◌, eqb, length, Result}
 use Rattle.refusals.specs.declared.Refusal.{Refusal}
 use Rattle.wire.specs.Layout.{Field, number, text, Value, number_is, text_is}
 use Rattle.wire.specs.Number.{num, part}
-use Rattle.message.specs.Layouts.{layout_of}
 use Rattle.message.specs.Row.{row_of, type_of}
 use Rattle.message.specs.declared.kinds.Message.{Message}
 use Rattle.single.specs.Told.{told_by}
-use Rattle.single.specs.declared.words.Words.{Words}
 
 -- a number is one; a text of 14 bytes is three, its first eight bytes, the next four and the last two; a shorter one is one
 abbrev pub widths_in : Field → List ℕ
@@ -41,14 +39,6 @@ message_numbers m = type_of m ∷ numbers_of (row_of m)
 abbrev pub message_told : Result Message Refusal → List ℕ → List ℕ
 message_told = told_by message_numbers
 
--- ---- the widths of a type as an array has them
-
-unfoldable pub words_of : ℕ → Words
-words_of type = record { widths = take 13 (widths_of (layout_of type) ++ replicate 13 0); count = length (widths_of (layout_of type)) }
-
-abbrev pub widths_by : Words → List ℕ
-widths_by words = take words.count words.widths
-
 abbrev pub Width : ℕ → Type 0
 Width w = (w ≡ 1) ⊎ ((w ≡ 2) ⊎ ((w ≡ 4) ⊎ (w ≡ 8)))
 
@@ -60,10 +50,9 @@ abbrev pub total : List ℕ → ℕ
 total [] = 0
 total (w ∷ ws) = w + total ws
 
--- they are such widths, and behind a message's header n bytes have room for them
-pub record Laid (words : Words) (n : ℕ) : Type 0 where
-  pub most : words.count ≤ 13
-  pub long : length words.widths ≡ 13
-  pub widths : Widths (widths_by words)
+-- they are such widths, no more than there are numbers, and behind a message's header n bytes have room for them
+pub record Laid (ws : List ℕ) (n : ℕ) : Type 0 where
+  pub most : length ws ≤ 13
+  pub widths : Widths ws
   pub head : 3 ≤ n
-  pub room : 3 + total (widths_by words) ≤ n
+  pub room : 3 + total ws ≤ n

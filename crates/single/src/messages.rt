@@ -7,36 +7,32 @@ ghost use Rattle.single.specs.Over.{over, over_from};
 ghost use Rattle.single.specs.Given.{bytes_from, given_buffer, given_of, message_if, wide_from};
 ghost use Rattle.refusals.specs.Refusals.{refusal_in};
 ghost use Rattle.single.specs.Told.{number_told};
-ghost use Rattle.single.specs.Words.{message_told, widths_by, widths_of, words_at, words_of, Laid};
+ghost use Rattle.single.specs.Words.{message_told, widths_of, words_at, Laid};
 
 use crate::telling;
-use crate::words::{Words, number_at, put_number, too_wide, words_of};
+use crate::words::{number_at, put_number, too_wide, words_of};
 use message::Message;
 use refusals::Refusal;
 
-fn tell_fields(s: &[u8], words: Words, told: &mut [u64; 14])
-    requires { Laid words (length s.now) }
-    ensures { told.new ≡ over_from 1 (words_at (widths_by words) 3 s.now) told.old }
+fn tell_fields(s: &[u8], words: &[u8], told: &mut [u64; 14])
+    requires { Laid words.now (length s.now) }
+    ensures { told.new ≡ over_from 1 (words_at words.now 3 s.now) told.old }
 {
     let mut at = 3;
-    let mut k = 0;
-    while k < words.count {
-        let width = words.widths[k];
+    for (k, &width) in words.iter().enumerate() {
         told[k + 1] = number_at(s, at, width);
         at += width as usize;
-        k += 1;
     }
 }
 
 // The type and the fields of whole bytes.
 fn tell(s: &[u8], told: &mut [u64; 14])
-    requires { Laid (words_of (type_in s.now)) (length s.now) }
+    requires { Laid (widths_of (layout_of (type_in s.now))) (length s.now) }
     ensures { told.new ≡ over (type_in s.now ∷ words_at (widths_of (layout_of (type_in s.now))) 3 s.now) told.old }
 {
     let kind = wire::u8_at(s, 2);
-    let words = words_of(kind);
     told[0] = kind as u64;
-    tell_fields(s, words, told);
+    tell_fields(s, words_of(kind), told);
 }
 
 // The message that the bytes are: its type, then its fields in their order; of 28 and unlisted types the type alone.
@@ -54,22 +50,19 @@ pub fn read(bytes: &[u8], told: &mut [u64; 14]) -> u64
 }
 
 // The fields put behind a message's header; true where a number does not fit in its field.
-fn fill(numbers: &[u64; 14], words: Words, bytes: &mut [u8]) -> bool
-    requires { Laid words (length bytes.old) }
-    ensures wide { result ≡ wide_from (widths_by words) 1 numbers.now }
-    ensures bytes { result ≡ false → bytes.new ≡ splice bytes.old 3 (bytes_from (widths_by words) 1 numbers.now) }
+fn fill(numbers: &[u64; 14], words: &[u8], bytes: &mut [u8]) -> bool
+    requires { Laid words.now (length bytes.old) }
+    ensures wide { result ≡ wide_from words.now 1 numbers.now }
+    ensures bytes { result ≡ false → bytes.new ≡ splice bytes.old 3 (bytes_from words.now 1 numbers.now) }
 {
     let mut at = 3;
-    let mut k = 0;
-    while k < words.count {
-        let width = words.widths[k];
+    for (k, &width) in words.iter().enumerate() {
         let n = numbers[k + 1];
         if too_wide(width, n) {
             return true;
         }
         put_number(bytes, at, width, n);
         at += width as usize;
-        k += 1;
     }
     false
 }

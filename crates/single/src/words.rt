@@ -1,40 +1,26 @@
 // The fields of a message as numbers of 1, 2, 4 or 8 bytes, one behind the other: a text of 14 bytes is three of them.
 ghost use Rattle.std.specs.Prelude.{◌≡◌, ◌+◌, ◌<◌, ◌^◌, ◌≤◌, leb, length};
 ghost use Rattle.wire.specs.Number.{be, num, part, splice};
-ghost use Rattle.single.specs.Words.{words_of, Width};
-
-// No message has more of them.
-pub const MOST: usize = 13;
-
-#[derive(Clone, Copy)]
-pub struct Words {
-    pub widths: [u8; MOST],
-    pub count: usize,
-}
-
-fn row(widths: [u8; MOST], count: usize) -> Words
-    ensures { result ≡ record { widths = widths; count = count } }
-{
-    Words { widths, count }
-}
+ghost use Rattle.message.specs.Layouts.{layout_of};
+ghost use Rattle.single.specs.Words.{widths_of, Width};
 
 // The widths by type, of 28 and unlisted types none.
-pub fn words_of(kind: u8) -> Words
-    ensures { result ≡ words_of kind }
+pub fn words_of(kind: u8) -> &'static [u8]
+    ensures { result.now ≡ widths_of (layout_of kind) }
 {
     match kind {
-        9 => row([8, 4, 2, 8, 1, 1, 4, 2, 1, 1, 1, 0, 0], 11),
-        11 => row([1, 8, 4, 0, 0, 0, 0, 0, 0, 0, 0, 0, 0], 3),
-        12 => row([1, 4, 8, 4, 0, 0, 0, 0, 0, 0, 0, 0, 0], 4),
-        20 => row([8, 1, 0, 0, 0, 0, 0, 0, 0, 0, 0, 0, 0], 2),
-        21 => row([4, 8, 4, 2, 1, 4, 8, 4, 2, 8, 4, 1, 2], 13),
-        22 => row([4, 8, 4, 2, 4, 8, 2, 0, 0, 0, 0, 0, 0], 7),
-        23 => row([4, 8, 4, 2, 0, 0, 0, 0, 0, 0, 0, 0, 0], 4),
-        24 => row([4, 8, 4, 2, 4, 4, 8, 0, 0, 0, 0, 0, 0], 7),
-        25 => row([4, 8, 4, 2, 4, 4, 8, 8, 0, 0, 0, 0, 0], 8),
-        26 => row([4, 8, 4, 2, 8, 4, 8, 4, 1, 0, 0, 0, 0], 9),
-        27 => row([4, 1, 4, 8, 4, 2, 8, 8, 8, 0, 0, 0, 0], 9),
-        _ => row([0; MOST], 0),
+        9 => &[8, 4, 2, 8, 1, 1, 4, 2, 1, 1, 1],
+        11 => &[1, 8, 4],
+        12 => &[1, 4, 8, 4],
+        20 => &[8, 1],
+        21 => &[4, 8, 4, 2, 1, 4, 8, 4, 2, 8, 4, 1, 2],
+        22 => &[4, 8, 4, 2, 4, 8, 2],
+        23 => &[4, 8, 4, 2],
+        24 => &[4, 8, 4, 2, 4, 4, 8],
+        25 => &[4, 8, 4, 2, 4, 4, 8, 8],
+        26 => &[4, 8, 4, 2, 8, 4, 8, 4, 1],
+        27 => &[4, 1, 4, 8, 4, 2, 8, 8, 8],
+        _ => &[],
     }
 }
 

@@ -59,18 +59,6 @@ odd_none (a ∷ []) k h = refl
 odd_none (a ∷ b ∷ rest) zero h = absurd (omega arith)
 odd_none (a ∷ b ∷ rest) (suc k) h = either (ltb (pair_of a b) 256) (is_pairs rest) (odd_none rest k (omega arith))
 
-pub dash_one : (s : List ℕ) → length s ≡ 1 → eqb (get_or s 0 0) 45 ≡ is_dash s
-unfolding is_dash
-dash_one [] h = absurd (omega arith)
-dash_one (a ∷ []) h = refl
-dash_one (a ∷ b ∷ rest) h = absurd (omega arith)
-
-pub dash_none : (s : List ℕ) → (length s ≡ 1 → ⊥) → false ≡ is_dash s
-unfolding is_dash
-dash_none [] other = refl
-dash_none (a ∷ []) other = absurd (other refl)
-dash_none (a ∷ b ∷ rest) other = refl
-
 few_none : (s : List ℕ) → length s ≤ 1 → false ≡ cond (eqb (length s) 0) false (is_pairs s)
 unfolding is_pairs
 few_none [] few = refl

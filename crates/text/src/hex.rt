@@ -40,13 +40,11 @@ fn fill(word: &[u8], out: &mut [u8], count: usize) -> bool
     true
 }
 
+#[tactic(auto, unfolding(crate::specs::Hex::is_dash))]
 fn is_dash(word: &[u8]) -> bool
     ensures { result ≡ is_dash word.now }
 {
-    if word.len() == 1 {
-        return word[0] == b'-';
-    }
-    false
+    matches!(word, [b'-'])
 }
 
 // The bytes of a word, put at the front of a buffer, and how many; none where the buffer is too short.
@@ -98,7 +96,7 @@ fn spell(out: &mut [u8], at: usize, bytes: &[u8])
 pub fn put(out: &mut [u8], at: usize, bytes: &[u8]) -> usize
     ensures { Put out.old at (hex_of bytes.now) result out.new }
 {
-    if bytes.len() == 0 {
+    if bytes.is_empty() {
         return output::put(out, at, b"-");
     }
     let room = out.len();

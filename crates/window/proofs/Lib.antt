@@ -3,4 +3,5 @@ pub mod Agreeing
 pub mod FirstNumber
 pub mod Held
 pub mod Requests
+pub mod Sizes
 pub mod Splits

@@ -1,6 +1,7 @@
 -- Document 01, "waiting window 256 numbers": 256 places of 128 bytes, one behind the other. Number k waits at place k % 256,
 -- its message first, zeros behind it; a place whose size bytes are 0 is free.
 -- Assumes nothing.
+use Rattle.std.specs.Prelude as std
 use Rattle.std.specs.Prelude.{cond, List, [], ◌∷◌, ◌++◌, ℕ, zero, suc, ◌-◌, ◌*◌, eqb, length, replicate}
 use Rattle.std.proofs.Math.Option.{Option, none, some}
 use Rattle.wire.specs.Number.{num, part}
@@ -12,6 +13,10 @@ start_of place = place * 128
 -- MessageSize of what waits at a place; 0 where it is free
 unfoldable pub size_at : List ℕ → ℕ → ℕ
 size_at window place = num (part window (start_of place) 2)
+
+-- the same, if it is not 0
+abbrev pub some_size : ℕ → std.Option ℕ
+some_size size = cond (eqb size 0) std.None (std.Some size)
 
 -- what waits at a place
 unfoldable pub waits_at : List ℕ → ℕ → Option (List ℕ)

@@ -17,11 +17,11 @@ fn request(buf: &mut [u8], at: usize, start: u32, count: u32)
     requires { at + 12 ≤ length buf.old }
     ensures { buf.new ≡ put_row layout (request_row start count) buf.old at }
 {
-    wire::put_u16(buf, at, SIZE);
-    wire::put_u8(buf, at + 2, b'r');
-    wire::put_u32(buf, at + 3, start);
-    wire::put_u32(buf, at + 7, count);
-    wire::put_u8(buf, at + 11, b'Y');
+    wire::put_number(buf, at, SIZE);
+    wire::put_number(buf, at + 2, b'r');
+    wire::put_number(buf, at + 3, start);
+    wire::put_number(buf, at + 7, count);
+    wire::put_number(buf, at + 11, b'Y');
 }
 
 // One request for each run, one behind the other.

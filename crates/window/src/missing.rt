@@ -9,7 +9,7 @@ use crate::places::{NUMBERS, Window};
 fn is_missing(window: &Window, k: u64) -> bool
     ensures { result ≡ missing_in window.now k }
 {
-    places::size_at(window, (k % NUMBERS) as usize) == 0
+    places::size_at(window, (k % NUMBERS) as usize).is_none()
 }
 
 // The first number from a place on, below the limit, that is missing or is not, as wanted; else the limit.
@@ -42,7 +42,7 @@ pub fn run(window: &Window, from: u64, limit: u64) -> Gap
     }
 }
 
-// How many runs there are from a number on.
+// How many runs there are from a number on. A loop and no iterator, which would be no plainer: a run begins where the last one ended.
 pub fn count(window: &Window, from: u64, limit: u64) -> u64
     requires { from ≤ limit }
     ensures { IsCount (missing_in window.now) from limit result }

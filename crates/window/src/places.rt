@@ -1,7 +1,7 @@
 // Parts: one place of the window.
 ghost use Rattle.std.specs.Prelude.{◌≡◌, ◌+◌, ◌*◌, ◌≤◌, ◌<◌, eqb, length};
 ghost use Rattle.wire.specs.Number.{part, splice};
-ghost use Rattle.window.specs.Window.{agreeing, size_at, start_of, zeros};
+ghost use Rattle.window.specs.Window.{agreeing, size_at, some_size, start_of, zeros};
 
 // How many numbers may wait, the bytes of a place, which has room for a longest message, and the bytes of all places.
 pub const NUMBERS: u64 = 256;
@@ -13,12 +13,19 @@ pub const BYTES: usize = (NUMBERS as usize) * PLACE;
 // The places, one behind the other.
 pub type Window = [u8; BYTES];
 
-// The size of what waits at a place, 0 where it is free.
-pub fn size_at(window: &Window, place: usize) -> usize
-    requires { place < 256 }
-    ensures { result ≡ size_at window.now place }
+// A size, if it is not 0.
+pub fn some_size(size: usize) -> Option<usize>
+    ensures { result ≡ some_size size }
 {
-    wire::u16_at(window, place * PLACE) as usize
+    if size == 0 { None } else { Some(size) }
+}
+
+// The size of what waits at a place, which begins with it; a place that is free begins with zeros.
+pub fn size_at(window: &Window, place: usize) -> Option<usize>
+    requires { place < 256 }
+    ensures { result ≡ some_size (size_at window.now place) }
+{
+    some_size(wire::number_at::<u16>(window, place * PLACE) as usize)
 }
 
 // What waits at a place, of a message's size, is that message, byte for byte.

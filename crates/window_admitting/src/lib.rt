@@ -49,7 +49,13 @@ fn clashes(window: &Window, next: u64, end: u64, s: &[u8], first: u64, messages:
 }
 
 // A packet that is taken is kept, or left to be applied straight from its bytes; one that is refused changes nothing.
-pub fn admit(window: &mut Window, next: u64, end: u64, s: &[u8], apply: Apply) -> Result<Admitted, Refusal>
+pub fn admit(
+    window: &mut Window,
+    next: u64,
+    end: u64,
+    s: &[u8],
+    apply: Apply,
+) -> Result<Admitted, Refusal>
     requires neat { Neat window.old next }
     requires known { Known window.old next end }
     ensures answer { result ≡ admitted_of (at_once apply) (state_of window.old next end) s.now }

@@ -21,13 +21,14 @@ pub fn framed(s: &[u8], at: usize) -> Frame
     requires { at + 2 ≤ length s.now }
     ensures { result ≡ frame_at false s.now at }
 {
-    let size = wire::u16_at(s, at) as usize;
+    let size = wire::number_at::<u16>(s, at) as usize;
     Frame {
         start: at + 2,
         size,
     }
 }
 
+// `single` is a bool and no enum, which would be no plainer: it is handed through to the definition, which asks it too.
 fn frame_of(s: &[u8], single: bool, at: usize) -> Frame
     requires { Lies single s.now at }
     ensures { result ≡ frame_at single s.now at }

@@ -9,7 +9,7 @@ use Prim.Native.Nat.{ℕ, ◌+◌, ◌-◌, ◌*◌, ◌≤◌, ◌<◌}
 use native.Mathlib.Decide.{dec_lt}
 use native.Mathlib.Omega.{arith}
 use lib.ListN.{length, take, drop}
-use Rattle.std.specs.Prelude.{Result, Ok, Err, None}
+use Rattle.std.specs.Prelude.{Result, None}
 use Rattle.refusals.specs.Refusals.{refusal_in}
 use Rattle.refusals.specs.declared.Refusal.{Refusal}
 use Rattle.wire.specs.Number.{Bytes, splice}

@@ -207,156 +207,156 @@ module _ (through : Bool) {w : List ℕ} (s : List ℕ) {next : ℕ} (end : ℕ)
       refused rejection.refusal (ap (λ (p : ℕ × ℕ). p.0) (apart ∙ decides (packet_tests s) (decided more) (λ e. named (test ∙ e))) ∙ sym test)
 
   module _ (passed : told (Ok tt) ≡ judge_of s) where
-      zero-tests : (decided (packet_tests s)).0 ≡ 0
-      zero-tests = sym (number passed)
+    zero-tests : (decided (packet_tests s)).0 ≡ 0
+    zero-tests = sym (number passed)
 
-      rest : decided (take_tests x s) ≡ decided more
-      rest = apart ∙ passes (packet_tests s) (decided more) (packet_numbered s) zero-tests
+    rest : decided (take_tests x s) ≡ decided more
+    rest = apart ∙ passes (packet_tests s) (decided more) (packet_numbered s) zero-tests
 
-      split : ((decided (header_tests s)).0 ≡ 0) × ((decided (unless_heartbeat (header.heartbeat (header_in s).flag) (body_tests (walk_from (header_in s).messages 12 s) (header_in s).seq (header_in s).messages))).0 ≡ 0)
-      unfolding packet_tests
-      split = second (header_tests s) (unless_heartbeat (header.heartbeat (header_in s).flag) (body_tests (walk_from (header_in s).messages 12 s) (header_in s).seq (header_in s).messages)) (header_numbered s) zero-tests
+    split : ((decided (header_tests s)).0 ≡ 0) × ((decided (unless_heartbeat (header.heartbeat (header_in s).flag) (body_tests (walk_from (header_in s).messages 12 s) (header_in s).seq (header_in s).messages))).0 ≡ 0)
+    unfolding packet_tests
+    split = second (header_tests s) (unless_heartbeat (header.heartbeat (header_in s).flag) (body_tests (walk_from (header_in s).messages 12 s) (header_in s).seq (header_in s).messages)) (header_numbered s) zero-tests
 
-      pub long : 12 ≤ length s
-      unfolding header_tests
-      long = ltb-false (length s) 12 (first_not (ltb (length s) 12) 1 0 ((ltb 1472 (length s), (2, 0)) ∷ (not (eqb (header_in s).size (length s)), (3, 0)) ∷ header.flags_of (header_in s)) (λ z. omega arith) split.0)
+    pub long : 12 ≤ length s
+    unfolding header_tests
+    long = ltb-false (length s) 12 (first_not (ltb (length s) 12) 1 0 ((ltb 1472 (length s), (2, 0)) ∷ (not (eqb (header_in s).size (length s)), (3, 0)) ∷ header.flags_of (header_in s)) (λ z. omega arith) split.0)
 
-      module _ {head : Header} (read : head ≡ header_in s) where
-        flag : (b : Bool) → eqb (head.flag % 2) 1 ≡ b → header.heartbeat (header_in s).flag ≡ b
-        flag b e = ap (λ (h : Header). eqb (h.flag % 2) 1) (sym read) ∙ e
+    module _ {head : Header} (read : head ≡ header_in s) where
+      flag : (b : Bool) → eqb (head.flag % 2) 1 ≡ b → header.heartbeat (header_in s).flag ≡ b
+      flag b e = ap (λ (h : Header). eqb (h.flag % 2) 1) (sym read) ∙ e
 
-        -- a heartbeat
-        pub beats : head.flag % 2 ≡ 1 → {to : ℕ} → to ≡ max end head.seq → Admits through w s next end (Ok (record { end = to; direct = 0; fresh = 0 })) w
-        unfolding more packet_in keep
-        beats h {to} ends =
-            let hb : header.heartbeat (header_in s).flag ≡ true = flag true (eq-eqb (head.flag % 2) 1 h) in
-            let d : (decided (take_tests x s)).0 ≡ 0 = ap (λ (p : ℕ × ℕ). p.0) (rest ∙ ap (λ (b : Bool). decided (unless_heartbeat b (wait_tests x s))) hb) in
-            let p : packet_in s ≡ heartbeat (header_in s).seq = ap (λ (b : Bool). cond b (heartbeat (header_in s).seq) (packet (header_in s).seq (map (bytes_at s) (frames_in s)))) hb in
-            let seq : head.seq ≡ (header_in s).seq = ap (λ (h : Header). h.seq) read in
-            let k : keep x (packet_in s) ≡ record { next = next; end = max end (header_in s).seq; waiting = waiting_of w next; tables = tt } = ap (keep x) p ∙ keep-heartbeat x (header_in s).seq in
-            left_alone d
-            (ends ∙ ap (max end) seq ∙ sym (ap (λ (y : State (List ℕ) (Unit {0})). y.end) k))
-            (λ e. ap (λ (q : Packet (List ℕ)). length q.messages) p)
-            (ap (fresh_in x) p ∙ fresh-none x (header_in s).seq)
-            (neat.same ∙ sym (ap (λ (y : State (List ℕ) (Unit {0})). window_for y.waiting next) k))
+      -- a heartbeat
+      pub beats : head.flag % 2 ≡ 1 → {to : ℕ} → to ≡ max end head.seq → Admits through w s next end (Ok (record { end = to; direct = 0; fresh = 0 })) w
+      unfolding more packet_in keep
+      beats h {to} ends =
+          let hb : header.heartbeat (header_in s).flag ≡ true = flag true (eq-eqb (head.flag % 2) 1 h) in
+          let d : (decided (take_tests x s)).0 ≡ 0 = ap (λ (p : ℕ × ℕ). p.0) (rest ∙ ap (λ (b : Bool). decided (unless_heartbeat b (wait_tests x s))) hb) in
+          let p : packet_in s ≡ heartbeat (header_in s).seq = ap (λ (b : Bool). cond b (heartbeat (header_in s).seq) (packet (header_in s).seq (map (bytes_at s) (frames_in s)))) hb in
+          let seq : head.seq ≡ (header_in s).seq = ap (λ (h : Header). h.seq) read in
+          let k : keep x (packet_in s) ≡ record { next = next; end = max end (header_in s).seq; waiting = waiting_of w next; tables = tt } = ap (keep x) p ∙ keep-heartbeat x (header_in s).seq in
+          left_alone d
+          (ends ∙ ap (max end) seq ∙ sym (ap (λ (y : State (List ℕ) (Unit {0})). y.end) k))
+          (λ e. ap (λ (q : Packet (List ℕ)). length q.messages) p)
+          (ap (fresh_in x) p ∙ fresh-none x (header_in s).seq)
+          (neat.same ∙ sym (ap (λ (y : State (List ℕ) (Unit {0})). window_for y.waiting next) k))
 
-        module _ (other : head.flag % 2 ≡ 1 → ⊥) where
-          hb : header.heartbeat (header_in s).flag ≡ false
-          hb = flag false (ne_eqb (head.flag % 2) 1 other)
+      module _ (other : head.flag % 2 ≡ 1 → ⊥) where
+        hb : header.heartbeat (header_in s).flag ≡ false
+        hb = flag false (ne_eqb (head.flag % 2) 1 other)
 
-          waits : decided (take_tests x s) ≡ decided (wait_tests x s)
-          unfolding more
-          waits = rest ∙ ap (λ (b : Bool). decided (unless_heartbeat b (wait_tests x s))) hb
+        waits : decided (take_tests x s) ≡ decided (wait_tests x s)
+        unfolding more
+        waits = rest ∙ ap (λ (b : Bool). decided (unless_heartbeat b (wait_tests x s))) hb
 
-          is-packet : packet_in s ≡ packet (header_in s).seq (map (bytes_at s) (frames_from (header_in s).messages 12 s))
-          unfolding packet_in
-          is-packet = ap (λ (b : Bool). cond b (heartbeat (header_in s).seq) (packet (header_in s).seq (map (bytes_at s) (frames_in s)))) hb
+        is-packet : packet_in s ≡ packet (header_in s).seq (map (bytes_at s) (frames_from (header_in s).messages 12 s))
+        unfolding packet_in
+        is-packet = ap (λ (b : Bool). cond b (heartbeat (header_in s).seq) (packet (header_in s).seq (map (bytes_at s) (frames_in s)))) hb
 
-          far : (b : Bool) → leb (next + 256) (last_of head.seq head.messages) ≡ b → (nine x s).0 ≡ b
-          far b e = ap (λ (h : Header). leb (next + 256) (last_of h.seq h.messages)) (sym read) ∙ e
+        far : (b : Bool) → leb (next + 256) (last_of head.seq head.messages) ≡ b → (nine x s).0 ≡ b
+        far b e = ap (λ (h : Header). leb (next + 256) (last_of h.seq h.messages)) (sym read) ∙ e
 
-          pub by_nine : next + 256 < head.seq + head.messages → Admits through w s next end (Err TooFarAhead) w
-          by_nine h =
-              let n : (nine x s).0 ≡ true = far true (le-leb (next + 256) (last_of head.seq head.messages) (omega arith)) in
-              let d : (decided (take_tests x s)).0 ≡ 9 = ap (λ (p : ℕ × ℕ). p.0) (waits ∙ ap (λ (b : Bool). decided ((b, (9, 2)) ∷ ten x s ∷ [])) n) in
-              refused TooFarAhead d
+        pub by_nine : next + 256 < head.seq + head.messages → Admits through w s next end (Err TooFarAhead) w
+        by_nine h =
+            let n : (nine x s).0 ≡ true = far true (le-leb (next + 256) (last_of head.seq head.messages) (omega arith)) in
+            let d : (decided (take_tests x s)).0 ≡ 9 = ap (λ (p : ℕ × ℕ). p.0) (waits ∙ ap (λ (b : Bool). decided ((b, (9, 2)) ∷ ten x s ∷ [])) n) in
+            refused TooFarAhead d
 
-          module _ (near : head.seq + head.messages ≤ next + 256) where
-            within : (nine x s).0 ≡ false
-            within = far false (lt-leb (next + 256) (last_of head.seq head.messages) (omega arith))
+        module _ (near : head.seq + head.messages ≤ next + 256) where
+          within : (nine x s).0 ≡ false
+          within = far false (lt-leb (next + 256) (last_of head.seq head.messages) (omega arith))
 
-            pub passes_on : Passed s next head.seq head.messages
-            unfolding body_tests
-            passes_on =
-                let body : (decided (body_tests (walk_from (header_in s).messages 12 s) (header_in s).seq (header_in s).messages)).0 ≡ 0 =
-                subst (λ (b : Bool). (decided (unless_heartbeat b (body_tests (walk_from (header_in s).messages 12 s) (header_in s).seq (header_in s).messages))).0 ≡ 0) hb split.1 in
-                record {
-                  walk =
-                      ap (λ (h : Header). walk_from h.messages 12 s) read
-                      ∙ unbroken (walk_from (header_in s).messages 12 s) (first_not (is_broken (walk_from (header_in s).messages 12 s)) 7 (fault_of (walk_from (header_in s).messages 12 s)) ((ltb 4294967295 (last_of (header_in s).seq (header_in s).messages), (8, 2)) ∷ []) (λ z. omega arith) body);
-                  long = long;
-                  near = near;
-                }
+          pub passes_on : Passed s next head.seq head.messages
+          unfolding body_tests
+          passes_on =
+              let body : (decided (body_tests (walk_from (header_in s).messages 12 s) (header_in s).seq (header_in s).messages)).0 ≡ 0 =
+              subst (λ (b : Bool). (decided (unless_heartbeat b (body_tests (walk_from (header_in s).messages 12 s) (header_in s).seq (header_in s).messages))).0 ≡ 0) hb split.1 in
+              record {
+                walk =
+                    ap (λ (h : Header). walk_from h.messages 12 s) read
+                    ∙ unbroken (walk_from (header_in s).messages 12 s) (first_not (is_broken (walk_from (header_in s).messages 12 s)) 7 (fault_of (walk_from (header_in s).messages 12 s)) ((ltb 4294967295 (last_of (header_in s).seq (header_in s).messages), (8, 2)) ∷ []) (λ z. omega arith) body);
+                long = long;
+                near = near;
+              }
 
-            module _ {differ : Bool} (seen : differ ≡ is_some (differ_from (waiting_of w next) head.seq (frames_from head.messages 12 s) s)) where
-              tenth : (b : Bool) → differ ≡ b → (ten x s).0 ≡ b
-              tenth b e = ap (λ (h : Header). is_some (differ_from (waiting_of w next) h.seq (frames_from h.messages 12 s) s)) (sym read) ∙ sym seen ∙ e
+          module _ {differ : Bool} (seen : differ ≡ is_some (differ_from (waiting_of w next) head.seq (frames_from head.messages 12 s) s)) where
+            tenth : (b : Bool) → differ ≡ b → (ten x s).0 ≡ b
+            tenth b e = ap (λ (h : Header). is_some (differ_from (waiting_of w next) h.seq (frames_from h.messages 12 s) s)) (sym read) ∙ sym seen ∙ e
 
-              tested : (b : Bool) → differ ≡ b → (decided (take_tests x s)).0 ≡ (decided ((b, (10, (ten x s).1.1)) ∷ [])).0
-              tested b e =
-                  ap (λ (p : ℕ × ℕ). p.0)
-                  (waits ∙ ap (λ (c : Bool). decided ((c, (9, 2)) ∷ ten x s ∷ [])) within ∙ ap (λ (c : Bool). decided ((c, (10, (ten x s).1.1)) ∷ [])) (tenth b e))
+            tested : (b : Bool) → differ ≡ b → (decided (take_tests x s)).0 ≡ (decided ((b, (10, (ten x s).1.1)) ∷ [])).0
+            tested b e =
+                ap (λ (p : ℕ × ℕ). p.0)
+                (waits ∙ ap (λ (c : Bool). decided ((c, (9, 2)) ∷ ten x s ∷ [])) within ∙ ap (λ (c : Bool). decided ((c, (10, (ten x s).1.1)) ∷ [])) (tenth b e))
 
-              pub by_ten : differ ≡ true → Admits through w s next end (Err Differs) w
-              by_ten e = refused Differs (tested true e)
+            pub by_ten : differ ≡ true → Admits through w s next end (Err Differs) w
+            by_ten e = refused Differs (tested true e)
 
-              module _ (e : differ ≡ false) {to : ℕ} (ends : to ≡ max end (head.seq + head.messages)) {b : Bool} (at_next : b ≡ (through && (eqb end next && eqb head.seq next))) where
-                p : packet_in s ≡ packet head.seq (map (bytes_at s) (frames_from head.messages 12 s))
-                p = is-packet ∙ ap (λ (h : Header). packet h.seq (map (bytes_at s) (frames_from h.messages 12 s))) (sym read)
+            module _ (e : differ ≡ false) {to : ℕ} (ends : to ≡ max end (head.seq + head.messages)) {b : Bool} (at_next : b ≡ (through && (eqb end next && eqb head.seq next))) where
+              p : packet_in s ≡ packet head.seq (map (bytes_at s) (frames_from head.messages 12 s))
+              p = is-packet ∙ ap (λ (h : Header). packet h.seq (map (bytes_at s) (frames_from h.messages 12 s))) (sym read)
 
-                n : length (map (bytes_at s) (frames_from head.messages 12 s)) ≡ head.messages
-                n = length-map (frames_from head.messages 12 s) (bytes_at s) ∙ length_frames head.messages 12 s
+              n : length (map (bytes_at s) (frames_from head.messages 12 s)) ≡ head.messages
+              n = length-map (frames_from head.messages 12 s) (bytes_at s) ∙ length_frames head.messages 12 s
 
-                end_is : to ≡ (keep x (packet_in s)).end
-                unfolding keep
-                end_is = ends ∙ sym (ap (λ (q : Packet (List ℕ)). (keep x q).end) p ∙ ap (λ (k : ℕ). max end (head.seq + k)) n)
+              end_is : to ≡ (keep x (packet_in s)).end
+              unfolding keep
+              end_is = ends ∙ sym (ap (λ (q : Packet (List ℕ)). (keep x q).end) p ∙ ap (λ (k : ℕ). max end (head.seq + k)) n)
 
-                level : b ≡ (through && (eqb end next && eqb (packet_in s).first next))
-                level = at_next ∙ sym (ap (λ (q : Packet (List ℕ)). through && (eqb end next && eqb q.first next)) p)
+              level : b ≡ (through && (eqb end next && eqb (packet_in s).first next))
+              level = at_next ∙ sym (ap (λ (q : Packet (List ℕ)). through && (eqb end next && eqb q.first next)) p)
 
-                pub keeps : b ≡ false → {after : List ℕ} {f : ℕ}
-                    → f ≡ fresh_in (state_of w next next) (packet head.seq (map (bytes_at s) (frames_from head.messages 12 s))) → after ≡ window_for (keep (state_of w next next) (packet head.seq (map (bytes_at s) (frames_from head.messages 12 s)))).waiting next
-                    → Admits through w s next end (Ok (record { end = to; direct = 0; fresh = f })) after
-                unfolding keep
-                keeps apart_from {after} count is =
-                    taken (tested false e) end_is (sym level ∙ apart_from)
-                    (is
-                    ∙ ap (λ (f : ℕ → Option (List ℕ)). window_for f next) (same_kept (state_of w next next) x (packet head.seq (map (bytes_at s) (frames_from head.messages 12 s))) refl refl)
-                    ∙ sym (ap (λ (q : Packet (List ℕ)). window_for (keep x q).waiting next) p))
-                    (count ∙ same-fresh (state_of w next next) x (packet head.seq (map (bytes_at s) (frames_from head.messages 12 s))) refl refl ∙ sym (ap (fresh_in x) p))
+              pub keeps : b ≡ false → {after : List ℕ} {f : ℕ}
+                  → f ≡ fresh_in (state_of w next next) (packet head.seq (map (bytes_at s) (frames_from head.messages 12 s))) → after ≡ window_for (keep (state_of w next next) (packet head.seq (map (bytes_at s) (frames_from head.messages 12 s)))).waiting next
+                  → Admits through w s next end (Ok (record { end = to; direct = 0; fresh = f })) after
+              unfolding keep
+              keeps apart_from {after} count is =
+                  taken (tested false e) end_is (sym level ∙ apart_from)
+                  (is
+                  ∙ ap (λ (f : ℕ → Option (List ℕ)). window_for f next) (same_kept (state_of w next next) x (packet head.seq (map (bytes_at s) (frames_from head.messages 12 s))) refl refl)
+                  ∙ sym (ap (λ (q : Packet (List ℕ)). window_for (keep x q).waiting next) p))
+                  (count ∙ same-fresh (state_of w next next) x (packet head.seq (map (bytes_at s) (frames_from head.messages 12 s))) refl refl ∙ sym (ap (fresh_in x) p))
 
-                pub passes_by : head.seq + head.messages ≤ next → Admits through w s next end (Ok (record { end = to; direct = 0; fresh = 0 })) w
-                unfolding keep
-                passes_by old =
-                    let ms : List (List ℕ) = map (bytes_at s) (frames_from head.messages 12 s) in
-                    let same : (k : ℕ) → kept_at x (packet head.seq (map (bytes_at s) (frames_from head.messages 12 s))) k ≡ waiting_of w next k =
-                    λ k.
-                    by_cases (dec_lt k next)
-                    (λ l. kept_old x (packet head.seq (map (bytes_at s) (frames_from head.messages 12 s))) k l)
-                    (λ l. kept-none-at x (packet head.seq (map (bytes_at s) (frames_from head.messages 12 s))) k (copy_none (packet head.seq (map (bytes_at s) (frames_from head.messages 12 s))) k (λ c. omega (arith, c.low, c.high, n)))) in
-                    left_alone (tested false e) end_is
-                    (λ z. ap (λ (q : Packet (List ℕ)). length q.messages) p ∙ n ∙ none_new head.seq head.messages old (level_seq z))
-                    (ap (fresh_in x) p ∙ fresh_past x (packet head.seq (map (bytes_at s) (frames_from head.messages 12 s))) (omega (arith, n)))
-                    (neat.same ∙ sym (ap (λ (q : Packet (List ℕ)). window_for (keep x q).waiting next) p ∙ ap (λ (f : ℕ → Option (List ℕ)). window_for f next) (fun_ext same)))
-                  where
-                    none_new : (first many : ℕ) → first + many ≤ next → first ≡ next → many ≡ 0
-                    none_new first many h at = omega arith
+              pub passes_by : head.seq + head.messages ≤ next → Admits through w s next end (Ok (record { end = to; direct = 0; fresh = 0 })) w
+              unfolding keep
+              passes_by old =
+                  let ms : List (List ℕ) = map (bytes_at s) (frames_from head.messages 12 s) in
+                  let same : (k : ℕ) → kept_at x (packet head.seq (map (bytes_at s) (frames_from head.messages 12 s))) k ≡ waiting_of w next k =
+                  λ k.
+                  by_cases (dec_lt k next)
+                  (λ l. kept_old x (packet head.seq (map (bytes_at s) (frames_from head.messages 12 s))) k l)
+                  (λ l. kept-none-at x (packet head.seq (map (bytes_at s) (frames_from head.messages 12 s))) k (copy_none (packet head.seq (map (bytes_at s) (frames_from head.messages 12 s))) k (λ c. omega (arith, c.low, c.high, n)))) in
+                  left_alone (tested false e) end_is
+                  (λ z. ap (λ (q : Packet (List ℕ)). length q.messages) p ∙ n ∙ none_new head.seq head.messages old (level_seq z))
+                  (ap (fresh_in x) p ∙ fresh_past x (packet head.seq (map (bytes_at s) (frames_from head.messages 12 s))) (omega (arith, n)))
+                  (neat.same ∙ sym (ap (λ (q : Packet (List ℕ)). window_for (keep x q).waiting next) p ∙ ap (λ (f : ℕ → Option (List ℕ)). window_for f next) (fun_ext same)))
+                where
+                  none_new : (first many : ℕ) → first + many ≤ next → first ≡ next → many ≡ 0
+                  none_new first many h at = omega arith
 
-                    level_seq : through_in through x s ≡ true → head.seq ≡ next
-                    level_seq z =
-                        eqb-true head.seq next
-                        (and_right (eqb end next) (eqb head.seq next)
-                        (and_right through (eqb end next && eqb head.seq next) (sym (starts (tested false e) end_is ∙ sym level ∙ at_next) ∙ z)))
+                  level_seq : through_in through x s ≡ true → head.seq ≡ next
+                  level_seq z =
+                      eqb-true head.seq next
+                      (and_right (eqb end next) (eqb head.seq next)
+                      (and_right through (eqb end next && eqb head.seq next) (sym (starts (tested false e) end_is ∙ sym level ∙ at_next) ∙ z)))
 
-                pub goes_on : b ≡ true → Admits through w s next end (Ok (record { end = to; direct = head.messages; fresh = 0 })) w
-                goes_on yes =
-                    goes (tested false e) end_is (sym level ∙ yes) (sym n ∙ sym (ap (λ (q : Packet (List ℕ)). length q.messages) p))
+              pub goes_on : b ≡ true → Admits through w s next end (Ok (record { end = to; direct = head.messages; fresh = 0 })) w
+              goes_on yes =
+                  goes (tested false e) end_is (sym level ∙ yes) (sym n ∙ sym (ap (λ (q : Packet (List ℕ)). length q.messages) p))
 
-            -- all of it is old, so nothing differs
-            pub old_on : head.seq + head.messages ≤ next → {to : ℕ} → to ≡ max end (head.seq + head.messages) → Admits through w s next end (Ok (record { end = to; direct = 0; fresh = 0 })) w
-            old_on old ends =
-                passes_by {differ = is_some (differ_from (waiting_of w next) head.seq (frames_from head.messages 12 s) s)} refl
-                (none_differs (waiting_of w next) head.seq (frames_from head.messages 12 s) s (λ j lo hi. below_none w next j (omega (arith, length_frames head.messages 12 s))))
-                ends
-                refl
-                old
+          -- all of it is old, so nothing differs
+          pub old_on : head.seq + head.messages ≤ next → {to : ℕ} → to ≡ max end (head.seq + head.messages) → Admits through w s next end (Ok (record { end = to; direct = 0; fresh = 0 })) w
+          old_on old ends =
+              passes_by {differ = is_some (differ_from (waiting_of w next) head.seq (frames_from head.messages 12 s) s)} refl
+              (none_differs (waiting_of w next) head.seq (frames_from head.messages 12 s) s (λ j lo hi. below_none w next j (omega (arith, length_frames head.messages 12 s))))
+              ends
+              refl
+              old
 
-            -- nothing is known beyond next, so nothing differs
-            pub straight_on : Known w next end → {to : ℕ} → to ≡ max end (head.seq + head.messages) → {b : Bool} → b ≡ (through && (eqb end next && eqb head.seq next)) → b ≡ true
-                → Admits through w s next end (Ok (record { end = to; direct = head.messages; fresh = 0 })) w
-            straight_on known ends at_next yes =
-                goes_on {differ = is_some (differ_from (waiting_of w next) head.seq (frames_from head.messages 12 s) s)} refl
-                (none_differs (waiting_of w next) head.seq (frames_from head.messages 12 s) s (λ j lo hi. none-waits known (eqb-true end next (and_left (eqb end next) (eqb head.seq next) (and_right through (eqb end next && eqb head.seq next) (sym at_next ∙ yes)))) j))
-                ends
-                at_next
-                yes
+          -- nothing is known beyond next, so nothing differs
+          pub straight_on : Known w next end → {to : ℕ} → to ≡ max end (head.seq + head.messages) → {b : Bool} → b ≡ (through && (eqb end next && eqb head.seq next)) → b ≡ true
+              → Admits through w s next end (Ok (record { end = to; direct = head.messages; fresh = 0 })) w
+          straight_on known ends at_next yes =
+              goes_on {differ = is_some (differ_from (waiting_of w next) head.seq (frames_from head.messages 12 s) s)} refl
+              (none_differs (waiting_of w next) head.seq (frames_from head.messages 12 s) s (λ j lo hi. none-waits known (eqb-true end next (and_left (eqb end next) (eqb head.seq next) (and_right through (eqb end next && eqb head.seq next) (sym at_next ∙ yes)))) j))
+              ends
+              at_next
+              yes

@@ -18,10 +18,9 @@ fn differs_at(window: &Window, next: u64, k: u64, message: &[u8]) -> bool
         return false;
     }
     let place = (k % places::NUMBERS) as usize;
-    let there = places::size_at(window, place);
-    if there == 0 {
+    let Some(there) = places::size_at(window, place) else {
         return false;
-    }
+    };
     if there != message.len() {
         return true;
     }
@@ -35,7 +34,7 @@ pub fn differs(window: &Window, next: u64, s: &[u8], first: u64, messages: u8) -
 {
     let mut at = packet::HEADER;
     for k in first..first + (messages as u64) {
-        let size = wire::u16_at(s, at) as usize;
+        let size = wire::number_at::<u16>(s, at) as usize;
         if differs_at(window, next, k, &s[at..at + size]) {
             return true;
         }

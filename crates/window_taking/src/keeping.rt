@@ -22,7 +22,7 @@ fn keep_one(window: &mut Window, next: u64, k: u64, message: &[u8]) -> u64
         return 0;
     }
     let place = (k % places::NUMBERS) as usize;
-    if places::size_at(window, place) != 0 {
+    if places::size_at(window, place).is_some() {
         return 0;
     }
     places::keep(window, place, message);
@@ -39,7 +39,7 @@ pub fn keep_all(window: &mut Window, next: u64, s: &[u8], first: u64, messages: 
     let mut at = packet::HEADER;
     let mut fresh: u64 = 0;
     for k in first..first + (messages as u64) {
-        let size = wire::u16_at(s, at) as usize;
+        let size = wire::number_at::<u16>(s, at) as usize;
         fresh += keep_one(window, next, k, &s[at..at + size]);
         at += size;
     }

@@ -5,43 +5,41 @@ use Rattle.book_index.proofs.Laws.{size_of}
 use Rattle.book_index.proofs.Walks.{seek_key, last_none, last_some, seek_head, seek_none, seek_falls, seek_live, seek_found, seek_on}
 use Rattle.book_index.proofs.find.Goals as goal
 
-pub loop-live-init : goal.loop-live-init
-loop-live-init c = seek_head (seek_key _ _ _ _ c.requires) _ c.head-cell.ensures.0
+pub loop-place-init : goal.loop-place-init
+loop-place-init c = seek_head (seek_key _ _ _ _ c.requires) _ c.head-cell.ensures.0
 
-pub bounds-index-cell : goal.bounds-index-cell
-bounds-index-cell c =
+pub next-requires : goal.next-requires
+next-requires c =
     let size = size_of _ c.requires.is in
-    let within = c.loop-live.invariant.within in
+    let within = c.loop-place.invariant.within in
     omega arith
 
-pub returns-then-at-eq0 : goal.returns-then-at-eq0
-returns-then-at-eq0 c =
-    let x = c.requires in
-    last_none _ _ _ _ x (seek_none (seek_key _ _ _ _ x) c.loop-live.invariant c.if-at-eq0.true)
-
-pub offset_bounds-keys-cell : goal.offset_bounds-keys-cell
-offset_bounds-keys-cell c =
-    let l = seek_live (seek_key _ _ _ _ c.requires) c.loop-live.invariant c.if-at-eq0.false in
+pub offset_bounds-keys-place : goal.offset_bounds-keys-place
+offset_bounds-keys-place c =
+    let l = seek_live (seek_key _ _ _ _ c.requires) c.loop-place.invariant c.in-Some.ensures in
     omega arith
 
-pub bounds-keys-cell : goal.bounds-keys-cell
-bounds-keys-cell c =
+pub bounds-keys-place : goal.bounds-keys-place
+bounds-keys-place c =
     let x = c.requires in
-    let l = seek_live (seek_key _ _ _ _ x) c.loop-live.invariant c.if-at-eq0.false in
+    let l = seek_live (seek_key _ _ _ _ x) c.loop-place.invariant c.in-Some.ensures in
     omega (arith, x.size, x.few)
 
-pub returns-then-keys-cell : goal.returns-then-keys-cell
-returns-then-keys-cell c =
+pub returns-then-keys-place : goal.returns-then-keys-place
+returns-then-keys-place c =
     let x = c.requires in
-    last_some _ _ _ _ x (seek_live (seek_key _ _ _ _ x) c.loop-live.invariant c.if-at-eq0.false)
-    (seek_found (seek_key _ _ _ _ x) c.loop-live.invariant c.if-at-eq0.false c.if-keys-cell.true)
+    last_some _ _ _ _ x (seek_live (seek_key _ _ _ _ x) c.loop-place.invariant c.in-Some.ensures)
+    (seek_found (seek_key _ _ _ _ x) c.loop-place.invariant c.in-Some.ensures c.if-keys-place.true)
 
-pub loop-live-smaller : goal.loop-live-smaller
-loop-live-smaller c =
-    seek_falls (seek_key _ _ _ _ c.requires) c.loop-live.invariant
-    c.if-at-eq0.false
+pub loop-place-smaller : goal.loop-place-smaller
+loop-place-smaller c = seek_falls (seek_key _ _ _ _ c.requires) c.loop-place.invariant c.in-Some.ensures
 
-pub loop-live-preserved : goal.loop-live-preserved
-loop-live-preserved c =
-    seek_on (seek_key _ _ _ _ c.requires) c.loop-live.invariant
-    c.if-at-eq0.false c.if-keys-cell.false
+pub loop-place-preserved : goal.loop-place-preserved
+loop-place-preserved c =
+    seek_on (seek_key _ _ _ _ c.requires) c.loop-place.invariant
+    c.in-Some.ensures c.if-keys-place.false
+
+pub returns : goal.returns
+returns c =
+    let x = c.requires in
+    last_none _ _ _ _ x (seek_none (seek_key _ _ _ _ x) c.loop-place.invariant c.in_default.ensures)

@@ -5,68 +5,58 @@ use Rattle.book_index.proofs.Laws.{size_of}
 use Rattle.book_index.proofs.Walks.{seek_head, seek_none, seek_falls, seek_live, seek_found, seek_on}
 use Rattle.book_index.proofs.Pairs.{both_here, both_are, seek_pair, pair_none, pair_some}
 use Rattle.book_index.proofs.pair.Goals as goal
+use Rattle.book_index.proofs.pair.Goals.{else-fronts-place-via-then-fronts-place+else-backs-place, else-fronts-place-via-else-fronts-place}
 
-pub loop-held-init : goal.loop-held-init
-loop-held-init c = seek_head (seek_pair _ _ _ _ c.requires _ _) _ c.head-cell.ensures.0
+pub loop-place-init : goal.loop-place-init
+loop-place-init c = seek_head (seek_pair _ _ _ _ c.requires _ _) _ c.head-cell.ensures.0
 
-pub bounds-index-cell : goal.bounds-index-cell
-bounds-index-cell c =
+pub next-requires : goal.next-requires
+next-requires c =
     let size = size_of _ c.requires.is in
-    let within = c.loop-held.invariant.within in
+    let within = c.loop-place.invariant.within in
     omega arith
 
-pub returns-then-at-eq0 : goal.returns-then-at-eq0
-returns-then-at-eq0 c =
-    let x = c.requires in
-    pair_none _ _ _ _ x _ _ (seek_none (seek_pair _ _ _ _ x _ _) c.loop-held.invariant c.if-at-eq0.true)
-
-pub offset_bounds-fronts-cell : goal.offset_bounds-fronts-cell
-offset_bounds-fronts-cell c =
-    let l = seek_live (seek_pair _ _ _ _ c.requires _ _) c.loop-held.invariant c.if-at-eq0.false in
+pub offset_bounds-fronts-place : goal.offset_bounds-fronts-place
+offset_bounds-fronts-place c =
+    let l = seek_live (seek_pair _ _ _ _ c.requires _ _) c.loop-place.invariant c.in-Some.ensures in
     omega arith
 
-pub bounds-fronts-cell : goal.bounds-fronts-cell
-bounds-fronts-cell c =
+pub bounds-fronts-place : goal.bounds-fronts-place
+bounds-fronts-place c =
     let x = c.requires in
-    let l = seek_live (seek_pair _ _ _ _ x _ _) c.loop-held.invariant c.if-at-eq0.false in
+    let l = seek_live (seek_pair _ _ _ _ x _ _) c.loop-place.invariant c.in-Some.ensures in
     omega (arith, x.fronts, x.few)
 
-pub offset_bounds-backs-cell : goal.offset_bounds-backs-cell
-offset_bounds-backs-cell c =
-    let l = seek_live (seek_pair _ _ _ _ c.requires _ _) c.loop-held.invariant
-    c.if-at-eq0.false in
+pub offset_bounds-backs-place : goal.offset_bounds-backs-place
+offset_bounds-backs-place c =
+    let l = seek_live (seek_pair _ _ _ _ c.requires _ _) c.loop-place.invariant c.in-Some.ensures in
     omega arith
 
-pub bounds-backs-cell : goal.bounds-backs-cell
-bounds-backs-cell c =
+pub bounds-backs-place : goal.bounds-backs-place
+bounds-backs-place c =
     let x = c.requires in
-    let l = seek_live (seek_pair _ _ _ _ x _ _) c.loop-held.invariant c.if-at-eq0.false in
+    let l = seek_live (seek_pair _ _ _ _ x _ _) c.loop-place.invariant c.in-Some.ensures in
     omega (arith, x.backs, x.few)
 
-pub returns-then-backs-cell : goal.returns-then-backs-cell
-returns-then-backs-cell c =
+pub returns-then-backs-place : goal.returns-then-backs-place
+returns-then-backs-place c =
     let x = c.requires in
-    pair_some _ _ _ _ x _ _ (seek_live (seek_pair _ _ _ _ x _ _) c.loop-held.invariant c.if-at-eq0.false)
-    (seek_found (seek_pair _ _ _ _ x _ _) c.loop-held.invariant c.if-at-eq0.false
-    (both_here _ _ _ _ _ c.if-fronts-cell.true c.if-backs-cell.true))
+    pair_some _ _ _ _ x _ _ (seek_live (seek_pair _ _ _ _ x _ _) c.loop-place.invariant c.in-Some.ensures)
+    (seek_found (seek_pair _ _ _ _ x _ _) c.loop-place.invariant c.in-Some.ensures
+    (both_here _ _ _ _ _ c.if-fronts-place.true c.if-backs-place.true))
 
-pub loop-held-smaller-else-backs-cell : goal.loop-held-smaller-else-backs-cell
-loop-held-smaller-else-backs-cell c =
-    seek_falls (seek_pair _ _ _ _ c.requires _ _)
-    c.loop-held.invariant c.if-at-eq0.false
+pub loop-place-smaller : goal.loop-place-smaller
+loop-place-smaller c = seek_falls (seek_pair _ _ _ _ c.requires _ _) c.loop-place.invariant c.in-Some.ensures
 
-pub loop-held-preserved-else-backs-cell : goal.loop-held-preserved-else-backs-cell
-loop-held-preserved-else-backs-cell c =
-    seek_on (seek_pair _ _ _ _ c.requires _ _)
-    c.loop-held.invariant c.if-at-eq0.false
-    (λ e. c.if-backs-cell.false (both_are _ _ _ _ _ e).1)
+pub loop-place-preserved : goal.loop-place-preserved
+loop-place-preserved c =
+    seek_on (seek_pair _ _ _ _ c.requires _ _) c.loop-place.invariant c.in-Some.ensures
+    (λ e. elim c.else-fronts-place.branch [
+      | else-fronts-place-via-then-fronts-place+else-backs-place w ↦ w.if-backs-place.false (both_are _ _ _ _ _ e).1
+      | else-fronts-place-via-else-fronts-place w ↦ w.if-fronts-place.false (both_are _ _ _ _ _ e).0
+    ])
 
-pub loop-held-smaller : goal.loop-held-smaller
-loop-held-smaller c =
-    seek_falls (seek_pair _ _ _ _ c.requires _ _) c.loop-held.invariant
-    c.if-at-eq0.false
-
-pub loop-held-preserved : goal.loop-held-preserved
-loop-held-preserved c =
-    seek_on (seek_pair _ _ _ _ c.requires _ _) c.loop-held.invariant
-    c.if-at-eq0.false (λ e. c.if-fronts-cell.false (both_are _ _ _ _ _ e).0)
+pub returns : goal.returns
+returns c =
+    let x = c.requires in
+    pair_none _ _ _ _ x _ _ (seek_none (seek_pair _ _ _ _ x _ _) c.loop-place.invariant c.in_default.ensures)

@@ -9,4 +9,4 @@ use Rattle.message_put_market.proofs.deal.Goals as goal
 pub returns : goal.returns
 returns c =
     let long : length c.args.fields.symbol ≡ 14 = search rules in
-    puts_row _ _ _ _ (long, tt) (search rules) (then _ _ (then _ _ (then _ _ c.put_u8.ensures c.put_u32.ensures) c.put_text.ensures) c.put_u64.ensures)
+    puts_row _ _ _ _ (long, tt) (search rules) (then _ _ (then _ _ (then _ _ c.put_number.ensures c.put_number-2.ensures) c.put_text.ensures) c.put_number-3.ensures)

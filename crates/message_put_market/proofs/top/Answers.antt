@@ -14,6 +14,6 @@ pub returns : goal.returns
 returns c =
     let long : length c.args.fields.symbol ≡ 14 = search rules in
     let room : c.args.at ≤ length c.args.buf.now = omega (arith, c.requires) in
-    let front = puts_row (number 4 ∷ text 14 ∷ []) (number_is _ ∷ text_is _ ∷ []) _ _ (long, tt) room (then _ _ c.put_u32.ensures c.put_text.ensures) in
+    let front = puts_row (number 4 ∷ text 14 ∷ []) (number_is _ ∷ text_is _ ∷ []) _ _ (long, tt) room (then _ _ c.put_number.ensures c.put_text.ensures) in
     let sides = parts_row _ _ _ _ _ _ (long, tt) room (parts_row _ _ _ _ _ _ (long, tt) room front c.quote.ensures) c.quote-2.ensures in
-    row_then _ (number 1 ∷ []) _ (number_is _ ∷ []) _ _ (long, tt) tt room sides c.put_u8.ensures
+    row_then _ (number 1 ∷ []) _ (number_is _ ∷ []) _ _ (long, tt) tt room sides c.put_number-2.ensures

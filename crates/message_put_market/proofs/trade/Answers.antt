@@ -14,5 +14,5 @@ pub returns : goal.returns
 returns c =
     let long : length c.args.fields.deal.symbol ≡ 14 = search rules in
     let room : c.args.at ≤ length c.args.buf.now = omega (arith, c.requires) in
-    let front = parts_row _ _ _ _ _ _ tt room (number_row 4 c.args.fields.time _ _ c.put_u32.ensures) c.deal.ensures in
-    row_then _ (number 8 ∷ number 8 ∷ []) _ (number_is _ ∷ number_is _ ∷ []) _ _ (long, tt) tt room front (then _ _ c.put_u64.ensures c.put_u64-2.ensures)
+    let front = parts_row _ _ _ _ _ _ tt room (number_row 4 c.args.fields.time _ _ c.put_number.ensures) c.deal.ensures in
+    row_then _ (number 8 ∷ number 8 ∷ []) _ (number_is _ ∷ number_is _ ∷ []) _ _ (long, tt) tt room front (then _ _ c.put_number-2.ensures c.put_number-3.ensures)

@@ -1,8 +1,8 @@
 -- The first broken field of an Order Add.
 -- Assumes nothing.
 use mathlib.Core.Path.{refl}
-use Rattle.message.proofs.Cases.{broken_is}
+use Rattle.message_rules.proofs.Offsets.{told_is}
 use Rattle.message_rules.proofs.add.Goals as goal
 
 pub returns : goal.returns
-returns c = broken_is 7 c.broken_or.ensures refl (broken_is 21 c.broken_or-sided.ensures c.good_side.ensures (broken_is 22 c.dealt-behind.ensures refl (broken_is 26 refl refl (broken_is 40 refl refl (broken_is 52 c.broken_or-told.ensures c.good_unsolicited.ensures refl)))))
+returns c = told_is 7 _ refl c.broken_or.ensures refl (told_is 21 _ refl c.broken_or-sided.ensures c.good_side.ensures (told_is 22 _ refl c.dealt-behind.ensures refl (told_is 26 _ refl refl refl (told_is 40 _ refl refl refl (told_is 52 _ refl c.broken_or-told.ensures c.good_unsolicited.ensures refl)))))

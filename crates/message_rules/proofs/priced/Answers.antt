@@ -1,8 +1,8 @@
 -- The first broken field of an Execution with Price.
 -- Assumes nothing.
 use mathlib.Core.Path.{refl}
-use Rattle.message.proofs.Cases.{broken_is}
+use Rattle.message_rules.proofs.Offsets.{told_is}
 use Rattle.message_rules.proofs.priced.Goals as goal
 
 pub returns : goal.returns
-returns c = broken_is 7 c.broken_or.ensures refl (broken_is 21 c.broken_or-sized.ensures c.good_quantity.ensures (broken_is 37 c.broken_or-priced.ensures c.good_price.ensures refl))
+returns c = told_is 7 _ refl c.broken_or.ensures refl (told_is 21 _ refl c.broken_or-sized.ensures c.good_quantity.ensures (told_is 37 _ refl c.broken_or-priced.ensures c.good_price.ensures refl))

@@ -1,9 +1,6 @@
 -- What stands at a place, or what was there before.
 -- Assumes nothing.
 use mathlib.Core.Path.{sym, ◌∙◌}
-use Prim.Native.Nat.{◌*◌}
-use native.Mathlib.Omega.{arith}
-use Rattle.window.proofs.Agreeing.{lent}
 use Rattle.session_message.proofs.Choices.{text-packet, text_window}
 use Rattle.session_message.proofs.fetch.Goals as goal
 
@@ -13,6 +10,4 @@ returns-then-rest-ne0 c = let a = c.args in sym (text-packet a.rest c.if-rest-ne
 pub returns : goal.returns
 returns c =
     let a = c.args in
-    c.copy_from_slice.ensures.after
-    ∙ lent a.window.now (a.place * 128) 128 (omega (arith, c.requires.0, c.told-window))
-    ∙ sym (text_window a.rest c.if-rest-ne0.false a.window.now a.text.now a.place)
+    c.text_at.ensures ∙ sym (text_window a.rest c.if-rest-ne0.false a.window.now a.text.now a.place)

@@ -11,4 +11,4 @@ pub returns-else-rest-eq0 : goal.returns-else-rest-eq0
 returns-else-rest-eq0 c = sym (freed-packet c.args.rest c.if-rest-eq0.false c.args.window.now c.args.place)
 
 pub clear-requires : goal.clear-requires
-clear-requires c = c.requires.0
+clear-requires c = c.requires

@@ -17,4 +17,4 @@ returns c =
     let firm-long : length c.args.fields.firm ≡ 4 = search rules in
     let room : c.args.at ≤ length c.args.buf.now = omega (arith, c.requires) in
     let front = parts_row _ _ _ _ _ _ (id-long, tt) room c.named.ensures c.deal.ensures in
-    row_then _ (text 4 ∷ number 1 ∷ number 2 ∷ []) _ (text_is _ ∷ number_is _ ∷ number_is _ ∷ []) _ _ (id-long, (symbol-long, tt)) (firm-long, tt) room front (then _ _ (then _ _ c.put_text.ensures c.put_u8.ensures) c.put_u16.ensures)
+    row_then _ (text 4 ∷ number 1 ∷ number 2 ∷ []) _ (text_is _ ∷ number_is _ ∷ number_is _ ∷ []) _ _ (id-long, (symbol-long, tt)) (firm-long, tt) room front (then _ _ (then _ _ c.put_text.ensures c.put_number.ensures) c.put_number-2.ensures)

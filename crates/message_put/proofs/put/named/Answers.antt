@@ -9,4 +9,4 @@ use Rattle.message_put.proofs.put.named.Goals as goal
 pub returns : goal.returns
 returns c =
     let long : length c.args.fields.id ≡ 14 = search rules in
-    puts_row _ _ _ _ (long, tt) (search rules) (then _ _ c.put_u32.ensures c.put_text.ensures)
+    puts_row _ _ _ _ (long, tt) (search rules) (then _ _ c.put_number.ensures c.put_text.ensures)

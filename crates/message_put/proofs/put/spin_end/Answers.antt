@@ -6,4 +6,4 @@ use Rattle.message_put.proofs.put.spin_end.Goals as goal
 
 pub returns : goal.returns
 returns c =
-    puts_row _ _ _ _ tt (search rules) (then _ _ (then _ _ (then _ _ c.put_u8.ensures c.put_u32.ensures) c.put_u64.ensures) c.put_u32-2.ensures)
+    puts_row _ _ _ _ tt (search rules) (then _ _ (then _ _ (then _ _ c.put_number.ensures c.put_number-2.ensures) c.put_number-3.ensures) c.put_number-4.ensures)

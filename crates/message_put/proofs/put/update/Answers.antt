@@ -14,4 +14,4 @@ pub returns : goal.returns
 returns c =
     let long : length c.args.fields.named.id ≡ 14 = search rules in
     let room : c.args.at ≤ length c.args.buf.now = omega (arith, c.requires) in
-    row_then _ (number 4 ∷ number 8 ∷ number 2 ∷ []) _ (number_is _ ∷ number_is _ ∷ number_is _ ∷ []) _ _ (long, tt) tt room c.named.ensures (then _ _ (then _ _ c.put_u32.ensures c.put_u64.ensures) c.put_u16.ensures)
+    row_then _ (number 4 ∷ number 8 ∷ number 2 ∷ []) _ (number_is _ ∷ number_is _ ∷ number_is _ ∷ []) _ _ (long, tt) tt room c.named.ensures (then _ _ (then _ _ c.put_number.ensures c.put_number-2.ensures) c.put_number-3.ensures)

@@ -10,23 +10,23 @@ pub returns : goal.returns
 returns c =
     row_is
     (decode layout 0 c.args.s.now)
-    c.u16_at-size.ensures
-    c.u32_at-seq.ensures
-    c.u8_at-flag.ensures
-    c.u8_at-messages.ensures
-    c.u32_at-milli.ensures
+    c.number_at.ensures
+    c.number_at-2.ensures
+    c.number_at-3.ensures
+    c.number_at-4.ensures
+    c.number_at-5.ensures
 
-pub u16_at-size-requires : goal.u16_at-size-requires
-u16_at-size-requires c = within tt c.requires
+pub number_at-requires : goal.number_at-requires
+number_at-requires c = within tt c.requires
 
-pub u32_at-seq-requires : goal.u32_at-seq-requires
-u32_at-seq-requires c = within tt c.requires
+pub number_at-requires-2 : goal.number_at-requires-2
+number_at-requires-2 c = within tt c.requires
 
-pub u8_at-flag-requires : goal.u8_at-flag-requires
-u8_at-flag-requires c = within tt c.requires
+pub number_at-requires-3 : goal.number_at-requires-3
+number_at-requires-3 c = within tt c.requires
 
-pub u8_at-messages-requires : goal.u8_at-messages-requires
-u8_at-messages-requires c = within tt c.requires
+pub number_at-requires-4 : goal.number_at-requires-4
+number_at-requires-4 c = within tt c.requires
 
-pub u32_at-milli-requires : goal.u32_at-milli-requires
-u32_at-milli-requires c = within tt c.requires
+pub number_at-requires-5 : goal.number_at-requires-5
+number_at-requires-5 c = within tt c.requires

@@ -6,11 +6,11 @@ use Rattle.packet_reader.proofs.Frames.{start_accepted, start_refused}
 use Rattle.packet_reader.proofs.Refusals.{accepted}
 use Rattle.packet_reader.proofs.cursor.start.Goals as goal
 
-pub u8_at-requires : goal.u8_at-requires
-u8_at-requires c = omega (arith, (accepted _ (sym (c.in-Ok.ensures {u = tt}))).least)
+pub number_at-requires : goal.number_at-requires
+number_at-requires c = omega (arith, (accepted _ (sym (c.in-Ok.ensures {u = tt}))).least)
 
 pub returns-in-Err : goal.returns-in-Err
 returns-in-Err c = start_refused _ _ (c.in-Err.ensures {u = tt})
 
 pub returns-in-Ok : goal.returns-in-Ok
-returns-in-Ok c = start_accepted _ (c.in-Ok.ensures {u = tt}) c.u8_at.ensures
+returns-in-Ok c = start_accepted _ (c.in-Ok.ensures {u = tt}) c.number_at.ensures

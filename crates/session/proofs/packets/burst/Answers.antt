@@ -8,8 +8,8 @@ use Rattle.session.specs.Meaning.{held, view}
 use Rattle.window_taking.proofs.Passing.{bytes_of}
 use Rattle.session.proofs.packets.burst.Goals as goal
 
-pub run-ran-requires : goal.run-ran-requires
-run-ran-requires c =
+pub run-ended-requires : goal.run-ended-requires
+run-ended-requires c =
     record {
       ruled = c.requires;
       runs = burst_runs (view (held c.args.session c.args.room.now c.args.window.now)) c.args.packets.now c.args.answers.now c.args.count refl c.due_of-due.ensures (omega arith);
@@ -22,7 +22,7 @@ returns c =
     let answers = c.args.answers.now in
     let most = c.args.count in
     let due = c.due_of-due.ensures in
-    let ran = c.run-ran.ensures in
+    let ran = c.run-ended.ensures in
     let rule = rule_packets c.requires false packets c.due_of-due.result (bytes_of packets (λ i. omega (arith, c.type_inv.packets i))) ran.held in
     record {
       taken = burst_is x packets answers most refl due ran.held;

@@ -1,12 +1,7 @@
--- The engine with the order table by value: it stops at each message that touches an order, and what that message does is stored.
+-- The engine: it stops at each message that touches an order, and what that message does is stored where the orders lie.
 -- Assumes nothing.
-use mathlib.Core.Path.{◌≡◌, refl, ap, ◌∙◌}
-use mathlib.Core.Bool.{Bool}
-use mathlib.Core.List.{List}
-use Prim.Native.Nat.{ℕ, ◌<◌}
-use native.Mathlib.Omega.{arith}
-use lib.ListN.{length, get_or, length-replicate}
-use Rattle.std.specs.Prelude.{Some}
+use Rattle.std.proofs.Common.{◌≡◌, ℕ, ◌<◌, Bool, List, get_or, refl, ap, ◌∙◌, arith, Some}
+use lib.ListN.{length-replicate}
 use Rattle.book.specs.Tables.{blank}
 use Rattle.book.specs.declared.tables.Order.{Order}
 use Rattle.session.specs.Engine.{AtPlace, Came, Task, steps_left}
@@ -25,22 +20,67 @@ module _ {t : Task} {s : List ℕ} {single : Bool} {os : List Order} {room windo
   within : hand.place < 256
   within = (came.waits hand h).within
 
-  many : length os ≡ 256
-  many = (came.waits hand h).many
-
   fewer : steps_left point < steps_left before
   fewer = came.fewer hand h
 
 pub loop-point-init : goal.loop-point-init
-loop-point-init c = going_starts c.requires.ruled c.args.packets.now c.args.single c.args.answers.now c.args.due c.requires.runs _ (length-replicate {A = ℕ} 128 0) c.begin-point.ensures
+loop-point-init c =
+    going_starts c.requires.ruled c.args.packets.now c.args.single c.args.answers.now c.args.due c.requires.runs _ (length-replicate {A = ℕ} 128 0) c.begin-point.ensures
 
 pub advance-point-requires : goal.advance-point-requires
 advance-point-requires c = (_, _, c.loop-point.invariant)
 
--- ---- nothing is left to do
+pub offset_bounds-session-place : goal.offset_bounds-session-place
+offset_bounds-session-place c = omega (arith, within (c.advance-point.ensures _ _ c.loop-point.invariant) c.in-Some.is)
 
-pub ended-end-requires : goal.ended-end-requires
-ended-end-requires c = ((c.advance-point.ensures _ _ c.loop-point.invariant).over c.in_default.is).left
+pub bounds-session-place : goal.bounds-session-place
+bounds-session-place c = within (c.advance-point.ensures _ _ c.loop-point.invariant) c.in-Some.is
+
+pub settle-requires : goal.settle-requires
+settle-requires c = (_, _, _, _, _, at_place (c.advance-point.ensures _ _ c.loop-point.invariant) c.in-Some.is)
+
+pub offset_bounds-session-last : goal.offset_bounds-session-last
+offset_bounds-session-last c =
+    omega (arith, (c.settle.ensures _ _ _ _ _ (at_place (c.advance-point.ensures _ _ c.loop-point.invariant) c.in-Some.is)).last _ c.in-Moves.is)
+
+pub bounds-session-last : goal.bounds-session-last
+bounds-session-last c = (c.settle.ensures _ _ _ _ _ (at_place (c.advance-point.ensures _ _ c.loop-point.invariant) c.in-Some.is)).last _ c.in-Moves.is
+
+pub offset_bounds-session-place-in-Moves : goal.offset_bounds-session-place-in-Moves
+offset_bounds-session-place-in-Moves c = omega (arith, within (c.advance-point.ensures _ _ c.loop-point.invariant) c.in-Some.is)
+
+pub bounds-session-place-in-Moves : goal.bounds-session-place-in-Moves
+bounds-session-place-in-Moves c = within (c.advance-point.ensures _ _ c.loop-point.invariant) c.in-Some.is
+
+pub offset_bounds-session-last-in-Moves : goal.offset_bounds-session-last-in-Moves
+offset_bounds-session-last-in-Moves c =
+    omega (arith, (c.settle.ensures _ _ _ _ _ (at_place (c.advance-point.ensures _ _ c.loop-point.invariant) c.in-Some.is)).last _ c.in-Moves.is)
+
+pub bounds-session-last-in-Moves : goal.bounds-session-last-in-Moves
+bounds-session-last-in-Moves c = (c.settle.ensures _ _ _ _ _ (at_place (c.advance-point.ensures _ _ c.loop-point.invariant) c.in-Some.is)).last _ c.in-Moves.is
+
+pub loop-point-smaller-in-Moves : goal.loop-point-smaller-in-Moves
+loop-point-smaller-in-Moves c = fewer (c.advance-point.ensures _ _ c.loop-point.invariant) c.in-Some.is
+
+pub loop-point-preserved-in-Moves : goal.loop-point-preserved-in-Moves
+loop-point-preserved-in-Moves c =
+    stored_remove (c.settle.ensures _ _ _ _ _ (at_place (c.advance-point.ensures _ _ c.loop-point.invariant) c.in-Some.is)) c.in-Moves.is c.no_order.ensures
+
+pub offset_bounds-session-place-in-Stores : goal.offset_bounds-session-place-in-Stores
+offset_bounds-session-place-in-Stores c = omega (arith, within (c.advance-point.ensures _ _ c.loop-point.invariant) c.in-Some.is)
+
+pub bounds-session-place-in-Stores : goal.bounds-session-place-in-Stores
+bounds-session-place-in-Stores c = within (c.advance-point.ensures _ _ c.loop-point.invariant) c.in-Some.is
+
+pub loop-point-smaller : goal.loop-point-smaller
+loop-point-smaller c = fewer (c.advance-point.ensures _ _ c.loop-point.invariant) c.in-Some.is
+
+pub loop-point-preserved : goal.loop-point-preserved
+loop-point-preserved c =
+    stored_put (c.settle.ensures _ _ _ _ _ (at_place (c.advance-point.ensures _ _ c.loop-point.invariant) c.in-Some.is)) c.in-Stores.is
+
+pub ended-requires : goal.ended-requires
+ended-requires c = ((c.advance-point.ensures _ _ c.loop-point.invariant).over c.in_default.is).left
 
 pub returns-in_default : goal.returns-in_default
 returns-in_default c =
@@ -48,62 +88,6 @@ returns-in_default c =
     record {
       held = o.held;
       answers = o.answers;
-      taken = ap (λ (e : Ended). e.taken) c.ended-end.ensures ∙ o.taken;
-      at = ap (λ (e : Ended). e.at) c.ended-end.ensures ∙ o.at;
+      taken = ap (λ (e : Ended). e.taken) c.ended.ensures ∙ o.taken;
+      at = ap (λ (e : Ended). e.at) c.ended.ensures ∙ o.at;
     }
-
-pub shape_of-answers-in_default : goal.shape_of-answers-in_default
-shape_of-answers-in_default c = (c.advance-point.ensures _ _ c.loop-point.invariant).long
-
--- ---- a message is at hand
-
-pub settle-requires : goal.settle-requires
-settle-requires c = (_, _, _, _, _, at_place (c.advance-point.ensures _ _ c.loop-point.invariant) c.in-Some.is)
-
-pub loop-point-preserved-in-Moves : goal.loop-point-preserved-in-Moves
-loop-point-preserved-in-Moves c =
-    let h = at_place (c.advance-point.ensures _ _ c.loop-point.invariant) c.in-Some.is in
-    stored_remove (c.settle.ensures _ _ _ _ _ h) c.in-Moves.is c.no_order.ensures
-
-pub loop-point-preserved : goal.loop-point-preserved
-loop-point-preserved c =
-    let h = at_place (c.advance-point.ensures _ _ c.loop-point.invariant) c.in-Some.is in
-    stored_put (c.settle.ensures _ _ _ _ _ h) c.in-Stores.is
-
-pub loop-point-smaller-in-Moves : goal.loop-point-smaller-in-Moves
-loop-point-smaller-in-Moves c = fewer (c.advance-point.ensures _ _ c.loop-point.invariant) c.in-Some.is
-
-pub loop-point-smaller : goal.loop-point-smaller
-loop-point-smaller c = fewer (c.advance-point.ensures _ _ c.loop-point.invariant) c.in-Some.is
-
--- ---- the places are within the table
-
-pub offset_bounds-session-place : goal.offset_bounds-session-place
-offset_bounds-session-place c = omega (arith, within (c.advance-point.ensures _ _ c.loop-point.invariant) c.in-Some.is)
-
-pub bounds-session-place : goal.bounds-session-place
-bounds-session-place c = omega (arith, within (c.advance-point.ensures _ _ c.loop-point.invariant) c.in-Some.is, many (c.advance-point.ensures _ _ c.loop-point.invariant) c.in-Some.is)
-
-pub offset_bounds-session-last : goal.offset_bounds-session-last
-offset_bounds-session-last c = omega (arith, (c.settle.ensures _ _ _ _ _ (at_place (c.advance-point.ensures _ _ c.loop-point.invariant) c.in-Some.is)).last _ c.in-Moves.is)
-
-pub bounds-session-last : goal.bounds-session-last
-bounds-session-last c = omega (arith, (c.settle.ensures _ _ _ _ _ (at_place (c.advance-point.ensures _ _ c.loop-point.invariant) c.in-Some.is)).last _ c.in-Moves.is, many (c.advance-point.ensures _ _ c.loop-point.invariant) c.in-Some.is)
-
-pub offset_bounds-session-place-in-Moves : goal.offset_bounds-session-place-in-Moves
-offset_bounds-session-place-in-Moves c = omega (arith, within (c.advance-point.ensures _ _ c.loop-point.invariant) c.in-Some.is)
-
-pub bounds-session-place-in-Moves : goal.bounds-session-place-in-Moves
-bounds-session-place-in-Moves c = omega (arith, within (c.advance-point.ensures _ _ c.loop-point.invariant) c.in-Some.is, many (c.advance-point.ensures _ _ c.loop-point.invariant) c.in-Some.is)
-
-pub offset_bounds-session-last-in-Moves : goal.offset_bounds-session-last-in-Moves
-offset_bounds-session-last-in-Moves c = omega (arith, (c.settle.ensures _ _ _ _ _ (at_place (c.advance-point.ensures _ _ c.loop-point.invariant) c.in-Some.is)).last _ c.in-Moves.is)
-
-pub bounds-session-last-in-Moves : goal.bounds-session-last-in-Moves
-bounds-session-last-in-Moves c = omega (arith, (c.settle.ensures _ _ _ _ _ (at_place (c.advance-point.ensures _ _ c.loop-point.invariant) c.in-Some.is)).last _ c.in-Moves.is, many (c.advance-point.ensures _ _ c.loop-point.invariant) c.in-Some.is)
-
-pub offset_bounds-session-place-in-Stores : goal.offset_bounds-session-place-in-Stores
-offset_bounds-session-place-in-Stores c = omega (arith, within (c.advance-point.ensures _ _ c.loop-point.invariant) c.in-Some.is)
-
-pub bounds-session-place-in-Stores : goal.bounds-session-place-in-Stores
-bounds-session-place-in-Stores c = omega (arith, within (c.advance-point.ensures _ _ c.loop-point.invariant) c.in-Some.is, many (c.advance-point.ensures _ _ c.loop-point.invariant) c.in-Some.is)

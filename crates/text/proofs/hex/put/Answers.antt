@@ -5,14 +5,14 @@ use Rattle.text.proofs.Spelling.{put_as, no_word, no_room, put_spelt}
 use borrow.Author.Rules.{rules}
 use Rattle.text.proofs.hex.put.Goals as goal
 
-pub returns-then-bytes-eq0 : goal.returns-then-bytes-eq0
-returns-then-bytes-eq0 c = put_as _ _ _ _ _ _ (no_word _ c.if-bytes-eq0.true) c.put.ensures
+pub returns-then-is_empty : goal.returns-then-is_empty
+returns-then-is_empty c = put_as _ _ _ _ _ _ (no_word _ (search rules)) c.put.ensures
 
 pub returns-then-room-at : goal.returns-then-room-at
-returns-then-room-at c = no_room _ _ _ (omega arith) (omega arith)
+returns-then-room-at c = no_room _ _ _ (search rules) (omega arith)
 
 pub returns-then-room-at-2 : goal.returns-then-room-at-2
-returns-then-room-at-2 c = no_room _ _ _ (omega arith) (omega arith)
+returns-then-room-at-2 c = no_room _ _ _ (search rules) (omega arith)
 
 pub returns : goal.returns
-returns c = put_spelt _ _ _ (omega arith) (omega arith) _ (search rules) c.spell.ensures
+returns c = put_spelt _ _ _ (search rules) (omega arith) _ (search rules) c.spell.ensures

@@ -5,4 +5,4 @@ use borrow.Author.Rules.{rules}
 use Rattle.window.proofs.asking.request.Goals as goal
 
 pub returns : goal.returns
-returns c = puts_row _ _ _ _ tt (search rules) (then _ _ (then _ _ (then _ _ (then _ _ c.put_u16.ensures c.put_u8.ensures) c.put_u32.ensures) c.put_u32-2.ensures) c.put_u8-2.ensures)
+returns c = puts_row _ _ _ _ tt (search rules) (then _ _ (then _ _ (then _ _ (then _ _ c.put_number.ensures c.put_number-2.ensures) c.put_number-3.ensures) c.put_number-4.ensures) c.put_number-5.ensures)

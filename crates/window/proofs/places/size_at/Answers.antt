@@ -1,8 +1,9 @@
--- `window::size_at` meets its contract: the two size bytes.
+-- The two size bytes, if they are not zeros.
 -- Assumes nothing.
-use Rattle.window.specs.Window.{size_at}
+use mathlib.Core.Path.{ap, ◌∙◌}
+use Rattle.window.specs.Window.{size_at, some_size}
 use Rattle.window.proofs.places.size_at.Goals as goal
 
 pub returns : goal.returns
 unfolding size_at
-returns c = c.u16_at.ensures
+returns c = c.some_size.ensures ∙ ap some_size c.number_at.ensures

@@ -1,0 +1,2 @@
+-- Laws of the listed types that the proofs of this crate and of those above cite.
+pub mod Listing

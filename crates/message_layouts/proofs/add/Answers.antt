@@ -1,6 +1,0 @@
--- The fields of an Order Add are the values of its row.
--- Assumes nothing.
-use Rattle.message_layouts.proofs.add.Goals as goal
-
-pub returns : goal.returns
-returns c = λ i. record { named = c.named.ensures i; deal = c.deal.ensures i; firm = c.text_at.ensures i; unsolicited = c.u8_at.ensures i; flags = c.u16_at.ensures i }

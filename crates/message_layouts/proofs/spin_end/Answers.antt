@@ -1,6 +1,0 @@
--- The fields of an End of Spin are the values of its row.
--- Assumes nothing.
-use Rattle.message_layouts.proofs.spin_end.Goals as goal
-
-pub returns : goal.returns
-returns c = λ i. record { spin = c.u8_at.ensures i; count = c.u32_at.ensures i; time = c.u64_at.ensures i; last = c.u32_at-2.ensures i }

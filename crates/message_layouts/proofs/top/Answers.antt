@@ -1,6 +1,0 @@
--- The fields of a Top of Book are the values of its row.
--- Assumes nothing.
-use Rattle.message_layouts.proofs.top.Goals as goal
-
-pub returns : goal.returns
-returns c = λ i. record { time = c.u32_at.ensures i; symbol = c.text_at.ensures i; ask = c.quote.ensures i; bid = c.quote-2.ensures i; unsolicited = c.u8_at.ensures i }

@@ -1,6 +1,0 @@
--- The fields of a Trade are the values of its row.
--- Assumes nothing.
-use Rattle.message_layouts.proofs.trade.Goals as goal
-
-pub returns : goal.returns
-returns c = λ i. record { time = c.u32_at.ensures i; deal = c.deal.ensures i; execution = c.u64_at.ensures i; reserved = c.u64_at-2.ensures i }
