@@ -3,11 +3,8 @@
 use mathlib.Core.Path.{◌≡◌, refl, ap, ◌∙◌, sym}
 use mathlib.Core.Bool.{Bool, true, false, ◌&&◌}
 use mathlib.Core.List.{List}
-use mathlib.Core.Logic.{by_cases}
 use Prim.Native.Nat.{ℕ}
-use native.Mathlib.Decide.{dec_lt}
-use native.Mathlib.Omega.{arith}
-use borrow.Author.Tests.{eqb-true, leb-true}
+use borrow.Author.Tests.{eqb-true}
 use lib.Dec.{eqb, leb}
 use lib.ListN.{get_or, take}
 use Rattle.std.specs.Prelude.{Option}
@@ -15,10 +12,8 @@ use Rattle.wire.specs.Number.{part}
 use Rattle.fields.specs.Id.{number_of}
 use Rattle.message.specs.Layouts.{type_in}
 use Rattle.message.specs.Row.{fields_of, type_of}
-use Rattle.message.specs.Table.{payload_of}
 use Rattle.message.specs.Whole.{Whole}
 use Rattle.message.specs.declared.kinds.Message.{Message}
-use Rattle.fields.proofs.Tests.{and_left, and_right}
 use Rattle.book.specs.Applying.{Seen, apply_of, change_of, effect_of, inside_of, is_listed, message_in, names, seen_of, topic_of}
 use Rattle.book.specs.Lookup.{is_at, key_at, place_found, symbol_at}
 use Rattle.book.specs.Named.{is_fault}

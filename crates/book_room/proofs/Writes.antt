@@ -17,7 +17,7 @@ use Rattle.book.specs.Tables.{Book, holding_insides, holding_marks, holding_orde
 use Rattle.book.specs.declared.tables.Inside.{Inside}
 use Rattle.book_room.specs.Room.{Filled, Gone, Spare, keys_without, numbers_of, parts_of, room_of, row_of, rows_of}
 use Rattle.book_room.proofs.Parts.{Sized, at_backs, at_fronts, at_index, at_keys, at_numbers, at_symbols, before_long, before_rows, get_part, put_part, read_part, rows_last, set-part, set_past}
-use Rattle.book_room.proofs.Lying.{length_room, live_at, long, number_at, sized}
+use Rattle.book_room.proofs.Lying.{live_at, number_at, sized}
 
 -- one of the ten numbers
 module _ {n k i s f b r : List ℕ} (z : Sized n k i s f b r) where
@@ -117,9 +117,6 @@ module _ {room : List ℕ} {next end : ℕ} {b : Book} (fill : Filled room next 
         in
         record { is = new_index (keys_without b place) (b.live - 1) keys_long removed_is now.is; last = last_is }
 
-    pub gone_long : {left : List ℕ} {r : ℕ} → Gone left next end b place r → length left ≡ length room
-    gone_long done = ap length done.is ∙ length_room next end (holding_orders b b.orders (keys_without b place) (b.live - 1)) keys_long fill.insides fill.fronts fill.backs ∙ sym (long fill)
-
   -- an order comes behind the last one
   module _ {live : ℕ} (at : live ≡ b.live) (few : live < 256) (key : ℕ) where
     put_long : length (set b.keys live key) ≡ 256
@@ -155,9 +152,6 @@ module _ {room : List ℕ} {next end : ℕ} {b : Book} (fill : Filled room next 
         ap (λ (n : ℕ). index_of (take (n + 1) (set b.keys n key))) (sym at)
         in
         new_index (set b.keys live key) (live + 1) put_long put_is (now.is ∙ same)
-
-    pub put_same : {after : List ℕ} → after ≡ room_of next end (holding_orders b b.orders (set b.keys live key) (live + 1)) → length after ≡ length room
-    put_same done = ap length done ∙ length_room next end (holding_orders b b.orders (set b.keys live key) (live + 1)) put_long fill.insides fill.fronts fill.backs ∙ sym (long fill)
 
   -- ---- the insides
 
@@ -219,9 +213,6 @@ module _ {room : List ℕ} {next end : ℕ} {b : Book} (fill : Filled room next 
         ap (λ (l : List ℕ). take 1031 l ++ (symbols ++ drop 765 (drop 1031 l))) entered_is
         ∙ put_part (at_symbols grown) (index_of (take b.held b.fronts)) 765 symbols z.symbols
         ∙ ap behind (now.is ∙ same)
-
-    pub enter_same : {after : List ℕ} → after ≡ room_of next end (holding_insides b b.insides (set b.fronts held first) (set b.backs held last) (held + 1)) → length after ≡ length room
-    enter_same done = ap length done ∙ length_room next end (holding_insides b b.insides (set b.fronts held first) (set b.backs held last) (held + 1)) fill.keys fill.insides fronts_long backs_long ∙ sym (long fill)
 
 -- ---- an inside's row
 

@@ -1,8 +1,7 @@
 // What is printed: lines put behind one another in a buffer, which is written where the next might not fit.
 use refusals::Refusal;
-use std::fmt;
 use std::fmt::Write;
-use std::io;
+use std::{fmt, io};
 use text::output;
 use window::missing::Gap;
 

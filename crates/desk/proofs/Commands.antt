@@ -1,29 +1,43 @@
--- Laws of the commands: a word of another length than a name, and a line of a known count of words.
+-- Laws of the commands: a word that is a name, and a line of a known count of words.
 -- Assumes nothing.
-use Rattle.std.proofs.Common.{Bool, true, false, cond, ◌≡◌, ◌≢◌, ◌<◌, refl, sym, ap, List, [], ◌∷◌, ℕ, length, eqb, arith, Option, None}
-use borrow.Author.Tests.{ne_eqb}
+use mathlib.Core.Bool.{Bool, true, false, cond}
+use mathlib.Core.Path.{◌≡◌, refl, sym, ap, ap₂, ◌∙◌}
+use mathlib.Core.List.{List, [], ◌∷◌}
+use Prim.Native.Nat.{ℕ}
+use lib.Dec.{eqb}
+use Rattle.std.proofs.Common.{Option, None}
+use borrow.Author.Tests.{eqb-true, eq-eqb, ne_eqb}
 use Rattle.desk.specs.Commands.{command_of, is_name}
 use Rattle.desk.specs.declared.command.Command.{Command}
 
-cond_false : (b : Bool) → cond b false false ≡ false
-cond_false true = refl
-cond_false false = refl
+cond_left : (x y : Bool) → cond x y false ≡ true → x ≡ true
+cond_left true y e = refl
+cond_left false y e = e
 
--- a word of another length is not the name
-other_length : (a b : List ℕ) → length a ≢ length b → is_name a b ≡ false
+cond_right : (x y : Bool) → cond x y false ≡ true → y ≡ true
+cond_right true y e = e
+cond_right false y e = cc
+
+name_same : (a b : List ℕ) → is_name a b ≡ true → a ≡ b
 unfolding is_name
-other_length [] [] h = absurd (h refl)
-other_length [] (b ∷ bs) h = refl
-other_length (a ∷ more) [] h = refl
-other_length (a ∷ more) (b ∷ bs) h =
-    let rest : is_name more bs ≡ false = other_length more bs (λ e. h (omega (arith, e))) in
-    rw rest (cond_false (eqb a b))
+name_same [] [] e = refl
+name_same [] (b ∷ bs) e = cc
+name_same (a ∷ more) [] e = cc
+name_same (a ∷ more) (b ∷ bs) e =
+    ap₂ ◌∷◌ (eqb-true a b (cond_left (eqb a b) (is_name more bs) e)) (name_same more bs (cond_right (eqb a b) (is_name more bs) e))
 
-pub short_name : (a b : List ℕ) → length a < length b → is_name a b ≡ false
-short_name a b h = other_length a b (λ e. omega (arith, h, e))
+name_refl : (a : List ℕ) → is_name a a ≡ true
+unfolding is_name
+name_refl [] = refl
+name_refl (a ∷ more) = ap (λ (t : Bool). cond t (is_name more more) false) (eq-eqb a a refl) ∙ name_refl more
 
-pub long_name : (a b : List ℕ) → length b < length a → is_name a b ≡ false
-long_name a b h = other_length a b (λ e. omega (arith, h, e))
+both_ways : (r s : Bool) → (r ≡ true → s ≡ true) → (s ≡ true → r ≡ true) → r ≡ s
+both_ways true s f g = sym (f refl)
+both_ways false true f g = g refl
+both_ways false false f g = refl
+
+pub name_is : (a b : List ℕ) (r : Bool) → (r ≡ true → a ≡ b) → (a ≡ b → r ≡ true) → r ≡ is_name a b
+name_is a b r f g = both_ways r (is_name a b) (λ e. ap (λ (l : List ℕ). is_name a l) (sym (f e)) ∙ name_refl a) (λ e. g (name_same a b e))
 
 pub of_count : {n m : ℕ} {u w : List ℕ} {r : Option Command} (k : ℕ) → n ≡ m → n ≡ k → u ≡ w → r ≡ command_of k u → r ≡ command_of m w
 of_count k f g h e = cc

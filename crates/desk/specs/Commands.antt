@@ -56,14 +56,6 @@ bare_command word =
     (cond (is_name word (114 ∷ 117 ∷ 108 ∷ 101 ∷ [])) (Some Rule)
     (named_of word (108 ∷ 111 ∷ 119 ∷ 101 ∷ 115 ∷ 116 ∷ []) Lowest))))
 
--- `rewrite`
-unfoldable pub four_command : List ℕ → Option Command
-four_command word = named_of word (114 ∷ 101 ∷ 119 ∷ 114 ∷ 105 ∷ 116 ∷ 101 ∷ []) Rewrite
-
--- `rehead`
-unfoldable pub seven_command : List ℕ → Option Command
-seven_command word = named_of word (114 ∷ 101 ∷ 104 ∷ 101 ∷ 97 ∷ 100 ∷ []) Rehead
-
 -- `state`, `unlisted`, `rule` and `lowest` have one word, `best` and `open` by a rule three, `rewrite` four, `rehead` seven, and every
 -- other command two
 unfoldable pub command_of : ℕ → List ℕ → Option Command
@@ -71,8 +63,8 @@ command_of count word =
     (cond (eqb count 1) (bare_command word)
     (cond (eqb count 2) (two_command word)
     (cond (eqb count 3) (three_command word)
-    (cond (eqb count 4) (four_command word)
-    (cond (eqb count 7) (seven_command word)
+    (cond (eqb count 4) (named_of word (114 ∷ 101 ∷ 119 ∷ 114 ∷ 105 ∷ 116 ∷ 101 ∷ []) Rewrite)
+    (cond (eqb count 7) (named_of word (114 ∷ 101 ∷ 104 ∷ 101 ∷ 97 ∷ 100 ∷ []) Rehead)
     None)))))
 
 -- a word read as an id or a symbol into 14 bytes, where it gave 14

@@ -77,11 +77,13 @@ pub fn best(rt: &impl Print, owned: &Owned, line: &[u8]) -> io::Result<()>
         return bad(rt);
     };
     match asking::best(owned.session, &owned.room, symbol, side as u8) {
-        Ok(Level {
-            price,
-            shares,
-            orders,
-        }) => println!(rt; "best {price} {shares} {orders}"),
+        Ok(
+            Level {
+                price,
+                shares,
+                orders,
+            },
+        ) => println!(rt; "best {price} {shares} {orders}"),
         Err(refusal) => refused(rt, refusal),
     }
 }
@@ -99,8 +101,14 @@ pub fn inside(rt: &impl Print, owned: &Owned, line: &[u8]) -> io::Result<()>
 }
 
 fn known_inside(rt: &impl Print, inside: Inside) -> io::Result<()> {
-    print!(rt; "inside {} {} {}", inside.time, inside.ask, inside.askvolume)?;
-    println!(rt; " {} {} {}", inside.bid, inside.bidvolume, inside.unsolicited)
+    print!(rt;
+        "inside {} {} {}",
+        inside.time, inside.ask, inside.askvolume
+    )?;
+    println!(rt;
+        " {} {} {}",
+        inside.bid, inside.bidvolume, inside.unsolicited
+    )
 }
 
 // The answer, then the buffer whole.

@@ -1,5 +1,4 @@
 // The commands that read bytes and need no session: value, header, message.
-ghost use Rattle.std.specs.Prelude.{◌≤◌, length, IfSome};
 ghost use Rattle.desk.specs.Commands.{TextOf};
 
 use printing::answers;

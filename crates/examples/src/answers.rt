@@ -72,7 +72,10 @@ pub fn report(rt: &impl Print, owned: &Owned) -> io::Result<()>
     requires { Ruled (held_by owned.now) }
 {
     faults(rt, owned)?;
-    order(rt, asking::order(owned.session, &owned.room, made::id_of(0)))?;
+    order(
+        rt,
+        asking::order(owned.session, &owned.room, made::id_of(0)),
+    )?;
     bests(rt, owned)?;
     inside(rt, asking::inside(&owned.room, made::symbol_of(0)))
 }

@@ -31,7 +31,14 @@ fn answered(rt: &impl Print, packets: &[u8], list: &mut [u64], size: usize) -> i
         let mut owned = Owned::open(10, OpeningRule::Default);
         let session = owned.session;
         let answers = &mut list[..size];
-        let taken = packets::burst(session, &mut owned.room, &mut owned.window, packets, 3, answers);
+        let taken = packets::burst(
+            session,
+            &mut owned.room,
+            &mut owned.window,
+            packets,
+            3,
+            answers,
+        );
         match taken.count {
             Ok(count) => print!(rt; "packets {count}")?,
             Err(refused) => refusal(rt, refused)?,

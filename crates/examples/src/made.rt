@@ -186,13 +186,7 @@ pub fn sent(owned: &mut Owned, seq: u32, first: Message, second: Message) -> Res
 }
 
 // A packet of one message with a byte changed: what no writer would write.
-pub fn damaged(
-    owned: &mut Owned,
-    seq: u32,
-    m: Message,
-    at: usize,
-    byte: u8,
-) -> Result<u64, Refusal>
+pub fn damaged(owned: &mut Owned, seq: u32, m: Message, at: usize, byte: u8) -> Result<u64, Refusal>
     requires { Ruled (held_by owned.old) }
     ensures { Ruled (held_by owned.new) }
 {

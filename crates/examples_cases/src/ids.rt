@@ -14,8 +14,7 @@ fn case(rt: &impl Print, line: &[u8]) -> io::Result<()> {
 }
 
 pub fn run(rt: &impl Print) -> io::Result<()> {
-    let ids =
-        "7A400CY528L9SN\n\
+    let ids = "7A400CY528L9SN\n\
         000000000010ZZ\n\
         ZZZZZZZZZZZZ00\n\
         7A400Ca528L9SN\n\

@@ -1,6 +1,6 @@
 // Parts: a case is a line, its label, a bar, and words behind it.
 ghost use Rattle.std.specs.List.{position};
-ghost use Rattle.std.specs.Prelude.{◌==◌, ◌≡◌, ◌-◌, ◌≤◌, length};
+ghost use Rattle.std.specs.Prelude.{◌==◌, ◌≡◌, ◌≤◌, length};
 ghost use Rattle.examples_cases.specs.Lines.{behind_of, label_of, letter_of, place_of, value_of};
 
 use text::number::parse;

@@ -5,21 +5,37 @@ use refusals::Refusal;
 use std::io;
 
 pub fn run(rt: &impl Print) -> io::Result<()> {
-    sweep(rt, "flags 0 to 255, 12 bytes, Messages 0", |k| header(12, k, 0))?;
-    sweep(rt, "flags 0 to 255, 13 bytes, Messages 1", |k| header(13, k, 1))?;
+    sweep(
+        rt,
+        "flags 0 to 255, 12 bytes, Messages 0",
+        |k| header(12, k, 0),
+    )?;
+    sweep(
+        rt,
+        "flags 0 to 255, 13 bytes, Messages 1",
+        |k| header(13, k, 1),
+    )?;
     sweep(rt, "types 0 to 255, 3 bytes", |k| message(3, k))?;
-    sweep(rt, "types 0 to 255, 128 bytes of zeros", |k| message(128, k))?;
+    sweep(
+        rt,
+        "types 0 to 255, 128 bytes of zeros",
+        |k| message(128, k),
+    )?;
     sweep(rt, "lengths 0 to 255 of type 0", |k| message(k, 0))?;
     sweep(rt, "characters 0 to 255, the first of an id", |k| id(0, k))?;
-    sweep(rt, "characters 0 to 255, the twelfth of an id", |k| id(11, k))?;
-    sweep(rt, "characters 0 to 255, the thirteenth of an id", |k| id(12, k))
+    sweep(
+        rt,
+        "characters 0 to 255, the twelfth of an id",
+        |k| id(11, k),
+    )?;
+    sweep(
+        rt,
+        "characters 0 to 255, the thirteenth of an id",
+        |k| id(12, k),
+    )
 }
 
-fn sweep<F: Fn(u8) -> Result<(), Refusal>>(
-    rt: &impl Print,
-    label: &str,
-    case: F,
-) -> io::Result<()>
+fn sweep<F: Fn(u8) -> Result<(), Refusal>>(rt: &impl Print, label: &str, case: F) -> io::Result<()>
     requires { F.IsAlwaysCallable case }
 {
     print!(rt; "{label}: ")?;

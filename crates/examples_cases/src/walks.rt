@@ -8,8 +8,7 @@ use refusals::Refusal;
 use std::io;
 
 pub fn run(rt: &impl Print) -> io::Result<()> {
-    let walks =
-        "walk of 3 messages | 24 7 0 3 24\n\
+    let walks = "walk of 3 messages | 24 7 0 3 24\n\
         walk of 3 messages, the last number past the end | 24 4294967295 0 3 24\n\
         walk of 3 messages, Messages 4 | 24 4294967295 0 4 24\n\
         walk of 3 messages, Messages 2 | 24 4294967295 0 2 24\n\
@@ -43,7 +42,10 @@ fn both(rt: &impl Print, label: &[u8], s: &[u8]) -> io::Result<()> {
 }
 
 fn judged(rt: &impl Print, refusal: Option<Refusal>) -> io::Result<()> {
-    print!(rt; ": judged {}", refusal.map_or(0, |refusal| refusal.number()))
+    print!(rt;
+        ": judged {}",
+        refusal.map_or(0, |refusal| refusal.number())
+    )
 }
 
 fn walked(rt: &impl Print, s: &[u8]) -> io::Result<()> {

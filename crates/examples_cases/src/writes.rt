@@ -82,8 +82,7 @@ fn write_header(rt: &impl Print, header: Header, buffer: &mut [u8], room: usize)
 
 // Type, room and place.
 fn messages(rt: &impl Print) -> io::Result<()> {
-    let writes =
-        "write Security | 9 64 3\n\
+    let writes = "write Security | 9 64 3\n\
         write Start of Spin | 11 64 3\n\
         write End of Spin | 12 64 3\n\
         write Trading Session | 20 64 3\n\
@@ -107,8 +106,7 @@ fn messages(rt: &impl Print) -> io::Result<()> {
 }
 
 fn headers(rt: &impl Print) -> io::Result<()> {
-    let writes =
-        "write header | 67 0 1 16\n\
+    let writes = "write header | 67 0 1 16\n\
         write header of a heartbeat | 12 1 0 12\n\
         write header, 11 bytes of buffer | 12 1 0 11\n\
         write header, size 11 | 11 1 0 16\n\

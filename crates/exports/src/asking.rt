@@ -73,7 +73,7 @@ pub fn order_numbers(order: Order) -> [u64; 8]
         order.id,
         order.price,
         order.shares as u64,
-        wire::u32_at(&firm, 0) as u64,
+        wire::number_at::<u32>(&firm, 0) as u64,
         front(symbol),
         back(symbol),
         order.side as u64,

@@ -7,7 +7,8 @@ pub enum Terms {
     Own(u64),
 }
 
-// The kinds, with the numbers of their layouts.
+// The kinds, with the numbers of their layouts. They are not the records of layouts.rt, which hold texts: a message may
+// have a text that its kind has not (`Proper` in message_write), and no such message could be said then.
 #[derive(Clone, Copy)]
 pub enum Body {
     Security {

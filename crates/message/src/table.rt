@@ -12,7 +12,8 @@ pub const TYPES: usize = 32;
 
 pub type Payloads = [u8; TYPES];
 
-// What the table has for a type that is not listed.
+// What the table has for a type that is not listed. It stays a number: the sizes are a constant array of bytes, a
+// fixed form of this project, copied whole by who asks for many types.
 const UNLISTED: u8 = 255;
 
 pub(crate) const PAYLOAD: Payloads = [

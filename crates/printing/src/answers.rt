@@ -24,22 +24,20 @@ pub fn value(rt: &impl Print, answer: Result<u64, Refusal>) -> io::Result<()> {
 
 pub fn header(rt: &impl Print, answer: Result<Header, Refusal>) -> io::Result<()> {
     match answer {
-        Ok(Header {
-            size,
-            seq,
-            flag,
-            messages,
-            milli,
-        }) => println!(rt; "header {size} {seq} {flag} {messages} {milli}"),
+        Ok(
+            Header {
+                size,
+                seq,
+                flag,
+                messages,
+                milli,
+            },
+        ) => println!(rt; "header {size} {seq} {flag} {messages} {milli}"),
         Err(refusal) => refused(rt, refusal),
     }
 }
 
-pub fn message(
-    rt: &impl Print,
-    answer: Result<Message, Refusal>,
-    texts: Texts,
-) -> io::Result<()> {
+pub fn message(rt: &impl Print, answer: Result<Message, Refusal>, texts: Texts) -> io::Result<()> {
     match answer {
         Ok(message) => {
             print!(rt; "message")?;

@@ -137,12 +137,9 @@ module _ (x : Meaning) (s : List ℕ) {l : List ℕ} (rows : l ≡ splice (0 ∷
   pub answer_is : {answer : Result ℕ Refusal} → answer ≡ answered (get_or l 1 0) (get_or l 0 0) → answer ≡ answer_of x s
   answer_is e = e ∙ ap (λ (k : List ℕ). answered (get_or k 1 0) (get_or k 0 0)) four
 
--- by its number a refusal is told, and 0 is none
+-- by its number a refusal is told
 pub answer_some : (applied number : ℕ) {refusal : Refusal} → number_of refusal ≡ number → Err refusal ≡ answered number applied
 answer_some applied number {refusal} e = sym (answered_err applied refusal) ∙ ap (λ (n : ℕ). answered n applied) e
-
-pub answer_none : (applied number : ℕ) → number ≡ 0 → Ok applied ≡ answered number applied
-answer_none applied number e = sym (ap (λ (n : ℕ). answered n applied) e)
 
 -- ---- a burst
 

@@ -108,8 +108,8 @@ fn symbol_by(first: u64, last: u64) -> [u8; 14]
     ensures { result ≡ symbol_by first last }
 {
     let mut text = [0u8; 14];
-    wire::put_u64(&mut text, 0, first);
-    wire::put_u64(&mut text, 6, last);
+    wire::put_number(&mut text, 0, first);
+    wire::put_number(&mut text, 6, last);
     text
 }
 

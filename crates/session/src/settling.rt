@@ -30,16 +30,15 @@ pub fn settle<'a>(
 {
     let bytes = session_message::message(text, packets, hand.here, hand.size);
     let name = hand.name;
-    if wire::u8_at(bytes, 2) == Kind::Add.number() {
+    if wire::number_at::<u8>(bytes, 2) == Kind::Add.number() {
         return Outcome::Stores(order_of(bytes, name.key));
     }
     match change(room, bytes, name, there.shares, there.price, point.next - 1) {
-        Act::Replace(_, shares, price) => {
-            let mut order = there;
-            order.shares = shares;
-            order.price = price;
-            Outcome::Stores(order)
-        }
+        Act::Replace(_, shares, price) => Outcome::Stores(Order {
+            shares,
+            price,
+            ..there
+        }),
         Act::Remove(_, last) => Outcome::Moves { last },
         Act::Nothing => Outcome::Stores(there),
     }

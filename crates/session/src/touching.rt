@@ -23,7 +23,7 @@ pub fn apply(room: &mut Room, bytes: &[u8], number: u64) -> Option<Touch>
     ensures { (next end : ℕ) (b : Book) → Houses room.old next end b number bytes.now → Touched room.new next end b number bytes.now result }
 {
     // By its number: of a pattern of several variants of `Kind` the proof learns nothing.
-    let kind = wire::u8_at(bytes, 2);
+    let kind = wire::number_at::<u8>(bytes, 2);
     match kind {
         21 => {
             let placed = add(room, bytes, number)?;

@@ -11,6 +11,7 @@ use window::places::{PLACE, Window};
 
 // What is left to apply: how many messages straight from the packet at hand, and where the first of them
 // begins in the lent bytes; where none is left there, how many of those that wait are due.
+// Two numbers and no enum, which would be no plainer: what the engine keeps is said of both at once (window_taking's Ahead).
 #[derive(Clone, Copy)]
 pub struct PacketRest {
     pub left: usize,

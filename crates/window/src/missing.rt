@@ -42,7 +42,7 @@ pub fn run(window: &Window, from: u64, limit: u64) -> Gap
     }
 }
 
-// How many runs there are from a number on.
+// How many runs there are from a number on. A loop and no iterator, which would be no plainer: a run begins where the last one ended.
 pub fn count(window: &Window, from: u64, limit: u64) -> u64
     requires { from ≤ limit }
     ensures { IsCount (missing_in window.now) from limit result }

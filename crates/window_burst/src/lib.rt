@@ -28,6 +28,7 @@ pub fn framed(s: &[u8], at: usize) -> Frame
     }
 }
 
+// `single` is a bool and no enum, which would be no plainer: it is handed through to the definition, which asks it too.
 fn frame_of(s: &[u8], single: bool, at: usize) -> Frame
     requires { Lies single s.now at }
     ensures { result ≡ frame_at single s.now at }

@@ -6,6 +6,7 @@ use refusals::Refusal;
 // behind it,
 // how many of its messages are applied straight from it and where they begin or, where none is, how many
 // of those that wait are due.
+// `begun` is a flag and no Option, which would be no plainer: next before it and end stand in each turn (Turns.at_start).
 #[derive(Clone, Copy)]
 pub struct Turn {
     pub begun: bool,

@@ -1,6 +1,6 @@
 -- `capture::main` is safe: the session keeps its rule, the strict one of its opening, and what is held stays within the buffer.
 -- Assumes nothing.
-use Rattle.std.proofs.Common.{◌≡◌, ◌≤◌, length}
+use Rattle.std.proofs.Common.{◌≤◌, length}
 use Rattle.session_owned.specs.Holding.{held_by}
 use Rattle.capture.specs.Replays.{Strictly}
 use Rattle.capture.proofs.main.Given as goal

@@ -43,9 +43,6 @@ key_at-key-requires c =
     let s = c.args.bytes.now in
     omega (arith, (add_naming s {key = number_of (part s 7 14)} pre.bytes_value pre.by_index.3.ready.whole refl).room)
 
-pub found-order-requires : goal.found-order-requires
-found-order-requires c = let pre = c.requires.by_index in (pre.0, pre.1, pre.2, lies pre.3)
-
 pub bounds-room-2 : goal.bounds-room-2
 bounds-room-2 c = omega (arith, long (filled (lies c.requires.by_index.3)))
 
@@ -53,9 +50,6 @@ pub add-requires : goal.add-requires
 add-requires c =
     let pre = c.requires in
     add_naming c.args.bytes.now pre.bytes_value pre.by_index.3.ready.whole c.key_at-key.ensures
-
-pub mark-requires : goal.mark-requires
-mark-requires c = let pre = c.requires.by_index in (pre.0, pre.1, pre.2, counts pre.3)
 
 pub enter-requires : goal.enter-requires
 enter-requires c =

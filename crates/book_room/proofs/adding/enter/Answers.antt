@@ -3,7 +3,7 @@
 use native.Mathlib.Omega.{arith}
 use lib.ListN.{length-set}
 use Rattle.book_room.proofs.Lying.{long}
-use Rattle.book_room.proofs.Writes.{put_asks, put_done, put_same}
+use Rattle.book_room.proofs.Writes.{put_asks, put_done}
 use Rattle.book_room.proofs.adding.enter.Goals as goal
 
 pub bounds-room-live : goal.bounds-room-live
@@ -19,12 +19,6 @@ pub put-requires : goal.put-requires
 put-requires c =
     let h = c.requires.3 in
     put_asks h.filled h.at h.few c.args.key
-
-pub shape_of-room : goal.shape_of-room
-shape_of-room c =
-    let h = c.requires.3 in
-    let key = c.args.key in
-    put_same h.filled h.at h.few key (put_done h.filled h.at h.few key c.put.ensures)
 
 pub returns : goal.returns
 returns c next end b h = put_done h.filled h.at h.few c.args.key c.put.ensures

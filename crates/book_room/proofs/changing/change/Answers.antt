@@ -1,7 +1,7 @@
 -- A message that names an order is decided by its look-up and the order's shares and price: the order is replaced or leaves, or it
 -- is a fault.
 -- Assumes nothing.
-use mathlib.Core.Path.{◌≡◌, ap}
+use mathlib.Core.Path.{◌≡◌}
 use mathlib.Core.List.{List}
 use Prim.Native.Nat.{ℕ}
 use Rattle.book.specs.Applying.{Seen, effect_of, message_in, topic_of}
@@ -26,18 +26,10 @@ module _ {room : List ℕ} {next end : ℕ} {b : Book} {number : ℕ} {s : List 
   leaves : {place : ℕ} → e ≡ Remove place → Leaves room next end b place
   leaves removes = record { filled = filled (lies k.houses); within = remove_within decided removes }
 
-pub change-requires : goal.change-requires
-change-requires c =
-    let pre = c.requires in
-    (record { whole = pre.by_index.3.houses.ready.whole; value = ap (λ (n : Name). n.key) pre.by_index.3.named }, pre.bytes_value)
-
 pub remove-last-requires : goal.remove-last-requires
 remove-last-requires c =
     let pre = c.requires.by_index in
     (pre.0, pre.1, pre.2, leaves pre.3 c.change.ensures c.in-Remove.is)
-
-pub mark-requires : goal.mark-requires
-mark-requires c = let pre = c.requires.by_index in (pre.0, pre.1, pre.2, counts pre.3.houses)
 
 pub returns-in-Replace : goal.returns-in-Replace
 returns-in-Replace c next end b k =

@@ -3,7 +3,7 @@
 use native.Mathlib.Omega.{arith}
 use lib.ListN.{length-set}
 use Rattle.book_room.proofs.Lying.{live_at, long}
-use Rattle.book_room.proofs.Writes.{gone_long, remove_asks, remove_done}
+use Rattle.book_room.proofs.Writes.{remove_asks, remove_done}
 use Rattle.book_room.proofs.changing.remove.Goals as goal
 
 pub bounds-room-2 : goal.bounds-room-2
@@ -46,11 +46,6 @@ slice_bounds-remove-end c = simp length-set (omega (arith, long c.requires.3.fil
 
 pub remove-requires : goal.remove-requires
 remove-requires c = let h = c.requires.3 in remove_asks h.filled h.within
-
-pub shape_of-room : goal.shape_of-room
-shape_of-room c =
-    let h = c.requires.3 in
-    gone_long h.filled h.within (remove_done h.filled h.within c.remove.ensures)
 
 pub returns : goal.returns
 returns c next end b h = remove_done h.filled h.within c.remove.ensures

@@ -24,11 +24,6 @@ overflow_add-room c =
     let is = noted_count counts.lies (noted c) in
     omega (arith, is, counts.counted, counts.within)
 
-pub shape_of-room : goal.shape_of-room
-shape_of-room c =
-    let lies = c.requires.3.lies in
-    simp length-set (omega (arith, noted_long lies (noted c), long (filled lies)))
-
 pub returns : goal.returns
 returns c next end b counts = noted_done counts.lies (noted c)
 

@@ -7,7 +7,7 @@ use lib.ListN.{length-set, set}
 use Rattle.book.specs.Tables.{holding_insides}
 use Rattle.book_room.specs.Room.{room_of}
 use Rattle.book_room.proofs.Lying.{long}
-use Rattle.book_room.proofs.Writes.{enter_asks, enter_done, enter_same}
+use Rattle.book_room.proofs.Writes.{enter_asks, enter_done}
 use Rattle.book_room.proofs.telling.enter.Goals as goal
 
 pub bounds-room-held : goal.bounds-room-held
@@ -26,13 +26,6 @@ pub put-requires : goal.put-requires
 put-requires c =
     let h = c.requires.3 in
     enter_asks h.filled h.at h.few c.front-first.result c.back.result
-
-pub shape_of-room : goal.shape_of-room
-shape_of-room c =
-    let h = c.requires.3 in
-    let first = c.front-first.result in
-    let last = c.back.result in
-    enter_same h.filled h.at h.few first last (enter_done h.filled h.at h.few first last c.put.ensures)
 
 pub returns : goal.returns
 returns c next end b h =

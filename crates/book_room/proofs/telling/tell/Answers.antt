@@ -37,9 +37,6 @@ module _ {room : List ℕ} {next end : ℕ} {b : Book} {number : ℕ} {s : List 
   few : e ≡ Enter → get_or room 3 0 < 64
   few enters = omega (arith, held_at (filled (lies h)), enter_few decided enters)
 
-pub told-inside-requires : goal.told-inside-requires
-told-inside-requires c = let pre = c.requires.by_index in record { whole = pre.3.ready.whole; by_index = (pre.0, pre.1, pre.2, lies pre.3) }
-
 pub inside_of-made-requires : goal.inside_of-made-requires
 inside_of-made-requires c =
     let pre = c.requires.by_index in
@@ -80,9 +77,6 @@ enter-requires c =
 pub bounds-room-4 : goal.bounds-room-4
 bounds-room-4 c = omega (arith, long (filled (lies c.requires.by_index.3)))
 
-pub mark-requires : goal.mark-requires
-mark-requires c = let pre = c.requires.by_index in (pre.0, pre.1, pre.2, counts pre.3)
-
 pub returns-in-Renew : goal.returns-in-Renew
 returns-in-Renew c next end b h =
     told_renew next end c.args.number (decided h c.told-inside.ensures c.rule_in-rule.ensures c.tell.ensures)
@@ -109,9 +103,6 @@ pub returns-in-Fault : goal.returns-in-Fault
 returns-in-Fault c next end b h =
     told_fault next end c.args.number (decided h c.told-inside.ensures c.rule_in-rule.ensures c.tell.ensures)
     c.in-Fault.is (c.mark.ensures next end b (counts h))
-
-pub count_apart-requires : goal.count_apart-requires
-count_apart-requires c = let pre = c.requires.by_index in (pre.0, pre.1, pre.2, counts pre.3)
 
 pub returns-in-CountApart : goal.returns-in-CountApart
 returns-in-CountApart c next end b h =

@@ -24,8 +24,5 @@ bounds-room-at-5 c = simp length-set (omega (arith, long c.requires.by_index.3, 
 pub bounds-room-at-6 : goal.bounds-room-at-6
 bounds-room-at-6 c = simp length-set (omega (arith, long c.requires.by_index.3, c.requires.place_bound))
 
-pub shape_of-room : goal.shape_of-room
-shape_of-room c = simp length-set
-
 pub returns : goal.returns
 returns = (λ c next end b fill. write_done fill _ _ c.requires.place_bound)

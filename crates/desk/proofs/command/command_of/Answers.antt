@@ -19,11 +19,11 @@ returns-in-3 c = of_count 3 c.count.ensures.is c.in-3.is c.word-word.ensures c.t
 
 pub returns-in-4 : goal.returns-in-4
 unfolding command_of
-returns-in-4 c = of_count 4 c.count.ensures.is c.in-4.is c.word-word.ensures c.four_command.ensures
+returns-in-4 c = of_count 4 c.count.ensures.is c.in-4.is c.word-word.ensures c.named.ensures
 
 pub returns-in-7 : goal.returns-in-7
 unfolding command_of
-returns-in-7 c = of_count 7 c.count.ensures.is c.in-7.is c.word-word.ensures c.seven_command.ensures
+returns-in-7 c = of_count 7 c.count.ensures.is c.in-7.is c.word-word.ensures c.named-in-7.ensures
 
 pub returns-in_default : goal.returns-in_default
 returns-in_default c = of_no_count _ c.count.ensures.is (search rules) (search rules) (search rules) (search rules) (search rules)

@@ -11,6 +11,3 @@ returns c = gap_same c.args.room.now c.args.window.now c.args.from (numbered c.r
 
 pub overflow_add-next : goal.overflow_add-next
 overflow_add-next c = omega (arith, (numbered c.requires.1).order, (numbered c.requires.1).top)
-
-pub run-requires : goal.run-requires
-run-requires c = omega (arith, c.min-first.ensures)

@@ -9,6 +9,3 @@ returns c = lowest_is c.args.room.now c.args.window.now c.first_number.ensures.i
 
 pub overflow_add-next : goal.overflow_add-next
 overflow_add-next c = omega (arith, (numbered c.requires.1).order, (numbered c.requires.1).top)
-
-pub first_number-requires : goal.first_number-requires
-first_number-requires c = omega arith

@@ -8,4 +8,4 @@ use Rattle.session.proofs.asking.symbol_by.Goals as goal
 
 pub returns : goal.returns
 unfolding splice
-returns c = c.put_u64-2.ensures ∙ ap (λ (l : List ℕ). splice l 6 (be 8 c.args.last)) c.put_u64.ensures
+returns c = c.put_number-2.ensures ∙ ap (λ (l : List ℕ). splice l 6 (be 8 c.args.last)) c.put_number.ensures

@@ -18,19 +18,19 @@ other s read out e = out (read ∙ e)
 pub message-bytes-requires : goal.message-bytes-requires
 message-bytes-requires c = let h = c.requires.5.waits in record { size_in_bounds = h.cut; lies = h.lies }
 
-pub u8_at-requires : goal.u8_at-requires
-u8_at-requires c = omega (arith, (subst Whole (sym c.message-bytes.ensures) c.requires.5.waits.whole).least)
+pub number_at-requires : goal.number_at-requires
+number_at-requires c = omega (arith, (subst Whole (sym c.message-bytes.ensures) c.requires.5.waits.whole).least)
 
 -- ---- an Add
 
 pub order_of-requires : goal.order_of-requires
 order_of-requires c =
     subst (λ (l : List ℕ). Naming 55 l c.args.hand.name.key) (sym c.message-bytes.ensures)
-    (puts c.requires.5 c.message-bytes.ensures (of_kind c.message-bytes.result.now c.u8_at.ensures (c.if-u8_at-number.true ∙ c.number.ensures))).naming
+    (puts c.requires.5 c.message-bytes.ensures (of_kind c.message-bytes.result.now c.number_at.ensures (c.if-number_at-number.true ∙ c.number.ensures))).naming
 
-pub returns-then-u8_at-number : goal.returns-then-u8_at-number
-returns-then-u8_at-number c t single os window answers h =
-    settled_put h c.message-bytes.ensures (of_kind c.message-bytes.result.now c.u8_at.ensures (c.if-u8_at-number.true ∙ c.number.ensures)) c.order_of.ensures
+pub returns-then-number_at-number : goal.returns-then-number_at-number
+returns-then-number_at-number c t single os window answers h =
+    settled_put h c.message-bytes.ensures (of_kind c.message-bytes.result.now c.number_at.ensures (c.if-number_at-number.true ∙ c.number.ensures)) c.order_of.ensures
 
 -- ---- a message that names an order
 
@@ -39,28 +39,28 @@ change-requires c =
     let t = c.requires.0 in
     let h = c.requires.5 in
     let is = c.message-bytes.ensures in
-    let out = other c.message-bytes.result.now c.u8_at.ensures (λ e. c.if-u8_at-number.false (e ∙ sym c.number.ensures)) in
+    let out = other c.message-bytes.result.now c.number_at.ensures (λ e. c.if-number_at-number.false (e ∙ sym c.number.ensures)) in
     record { bytes_value = names_one h is out; by_index = (t.next, t.end, (named h is out).tables, asks h is out) }
 
 pub returns-in-Replace : goal.returns-in-Replace
 returns-in-Replace c t single os window answers h =
     let is = c.message-bytes.ensures in
-    let out = other c.message-bytes.result.now c.u8_at.ensures (λ e. c.if-u8_at-number.false (e ∙ sym c.number.ensures)) in
+    let out = other c.message-bytes.result.now c.number_at.ensures (λ e. c.if-number_at-number.false (e ∙ sym c.number.ensures)) in
     settled_replace h is out (c.change.ensures t.next t.end (named h is out).tables (asks h is out)) c.in-Replace.is
 
 pub returns-in-Remove : goal.returns-in-Remove
 returns-in-Remove c t single os window answers h =
     let is = c.message-bytes.ensures in
-    let out = other c.message-bytes.result.now c.u8_at.ensures (λ e. c.if-u8_at-number.false (e ∙ sym c.number.ensures)) in
+    let out = other c.message-bytes.result.now c.number_at.ensures (λ e. c.if-number_at-number.false (e ∙ sym c.number.ensures)) in
     settled_remove h is out (c.change.ensures t.next t.end (named h is out).tables (asks h is out)) c.in-Remove.is
 
 pub returns-in-Nothing : goal.returns-in-Nothing
 returns-in-Nothing c t single os window answers h =
     let is = c.message-bytes.ensures in
-    let out = other c.message-bytes.result.now c.u8_at.ensures (λ e. c.if-u8_at-number.false (e ∙ sym c.number.ensures)) in
+    let out = other c.message-bytes.result.now c.number_at.ensures (λ e. c.if-number_at-number.false (e ∙ sym c.number.ensures)) in
     settled_nothing h is out (c.change.ensures t.next t.end (named h is out).tables (asks h is out)) c.in-Nothing.is
 
 pub overflow_sub-point : goal.overflow_sub-point
 overflow_sub-point c =
-    let out = other c.message-bytes.result.now c.u8_at.ensures (λ e. c.if-u8_at-number.false (e ∙ sym c.number.ensures)) in
+    let out = other c.message-bytes.result.now c.number_at.ensures (λ e. c.if-number_at-number.false (e ∙ sym c.number.ensures)) in
     omega (arith, (named c.requires.5 c.message-bytes.ensures out).behind)

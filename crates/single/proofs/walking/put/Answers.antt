@@ -1,19 +1,13 @@
 -- Where each message lies goes over the list: what is left of it, from where the loop is, is the whole of it.
 -- Assumes nothing.
 use Rattle.std.proofs.Common.{arith}
-use Rattle.single.proofs.Taking.{all, here, more, none}
+use Rattle.single.proofs.Taking.{all, here, more}
 use Rattle.single.proofs.walking.put.Goals as goal
-
-pub loop-i-init : goal.loop-i-init
-loop-i-init c = none _ _ _ c.requires.walkable
 
 pub u16_at-size-requires : goal.u16_at-size-requires
 u16_at-size-requires c =
     let l = here _ _ _ _ _ _ c.loop-i.invariant c.loop-i-test.true in
     omega (arith, l.least, l.within)
-
-pub overflow_add-at : goal.overflow_add-at
-overflow_add-at c = omega (arith, (here _ _ _ _ _ _ c.loop-i.invariant c.loop-i-test.true).within, c.u16_at-size.ensures)
 
 pub loop-i-preserved : goal.loop-i-preserved
 loop-i-preserved c = more _ _ _ _ _ _ c.loop-i.invariant c.loop-i-test.true c.u16_at-size.ensures

@@ -1,0 +1,17 @@
+-- `desk::command::two_command` meets its contract, a name at a time.
+-- Assumes nothing.
+use mathlib.Core.Path.{◌∙◌, sym}
+use Rattle.desk.specs.Commands.{two_command}
+use Rattle.desk.proofs.command.two_command.Goals as goal
+
+pub returns-then-is_name : goal.returns-then-is_name
+unfolding two_command
+returns-then-is_name c = simp (sym c.is_name.ensures ∙ c.if-is_name.true)
+
+pub returns-then-is_name-2 : goal.returns-then-is_name-2
+unfolding two_command
+returns-then-is_name-2 c = simp (sym c.is_name-2.ensures ∙ c.if-is_name-2.true, sym c.is_name.ensures ∙ c.if-is_name.false)
+
+pub returns : goal.returns
+unfolding two_command
+returns c = simp (c.one_command.ensures, sym c.is_name-2.ensures ∙ c.if-is_name-2.false, sym c.is_name.ensures ∙ c.if-is_name.false)
