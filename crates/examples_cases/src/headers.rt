@@ -23,10 +23,10 @@ fn case(rt: &impl Print, line: &[u8]) -> io::Result<()> {
 pub fn put_front(packet: &mut [u8], line: &[u8])
     requires { 8 ≤ length packet.old }
 {
-    wire::put_u16(packet, 0, (number(line, 0) % 65536) as u16);
-    wire::put_u32(packet, 2, (number(line, 1) % 4294967296) as u32);
-    wire::put_u8(packet, 6, (number(line, 2) % 256) as u8);
-    wire::put_u8(packet, 7, (number(line, 3) % 256) as u8);
+    wire::put_number(packet, 0, (number(line, 0) % 65536) as u16);
+    wire::put_number(packet, 2, (number(line, 1) % 4294967296) as u32);
+    wire::put_number(packet, 6, (number(line, 2) % 256) as u8);
+    wire::put_number(packet, 7, (number(line, 3) % 256) as u8);
 }
 
 pub fn run(rt: &impl Print) -> io::Result<()> {

@@ -29,10 +29,10 @@ fn patch(bytes: &mut [u8], at: usize, width: u64, value: u64) {
     if at <= 240 {
         if 256 <= bytes.len() {
             match width {
-                1 => wire::put_u8(bytes, at, (value % 256) as u8),
-                2 => wire::put_u16(bytes, at, (value % 65536) as u16),
-                4 => wire::put_u32(bytes, at, (value % 4294967296) as u32),
-                8 => wire::put_u64(bytes, at, value),
+                1 => wire::put_number(bytes, at, (value % 256) as u8),
+                2 => wire::put_number(bytes, at, (value % 65536) as u16),
+                4 => wire::put_number(bytes, at, (value % 4294967296) as u32),
+                8 => wire::put_number(bytes, at, value),
                 _ => {}
             }
         }
