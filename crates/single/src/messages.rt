@@ -30,7 +30,7 @@ fn tell(s: &[u8], told: &mut [u64; 14])
     requires { Laid (widths_of (layout_of (type_in s.now))) (length s.now) }
     ensures { told.new ≡ over (type_in s.now ∷ words_at (widths_of (layout_of (type_in s.now))) 3 s.now) told.old }
 {
-    let kind = wire::u8_at(s, 2);
+    let kind = wire::number_at::<u8>(s, 2);
     told[0] = kind as u64;
     tell_fields(s, words_of(kind), told);
 }

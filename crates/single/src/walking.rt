@@ -33,7 +33,7 @@ fn put(s: &[u8], messages: u8, places: &mut [u64])
 {
     let mut at = HEADER;
     for i in 0..messages as usize {
-        let size = wire::u16_at(s, at) as usize;
+        let size = wire::number_at::<u16>(s, at) as usize;
         places[2 * i] = at as u64;
         places[2 * i + 1] = size as u64;
         at += size;
@@ -52,7 +52,7 @@ pub fn walk(packet: &[u8], places: &mut [u64], told: &mut [u64; 2]) -> u64
         told[1] = 0;
         return rejection.refusal.number() as u64;
     }
-    let messages = wire::u8_at(packet, 7);
+    let messages = wire::number_at::<u8>(packet, 7);
     told[0] = 0;
     told[1] = messages as u64;
     if places.len() / 2 < messages as usize {

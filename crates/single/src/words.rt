@@ -30,10 +30,10 @@ pub fn number_at(s: &[u8], at: usize, width: u8) -> u64
     ensures { result ≡ num (part s.now at width) }
 {
     match width {
-        1 => wire::u8_at(s, at) as u64,
-        2 => wire::u16_at(s, at) as u64,
-        4 => wire::u32_at(s, at) as u64,
-        _ => wire::u64_at(s, at),
+        1 => wire::number_at::<u8>(s, at) as u64,
+        2 => wire::number_at::<u16>(s, at) as u64,
+        4 => wire::number_at::<u32>(s, at) as u64,
+        _ => wire::number_at(s, at),
     }
 }
 
@@ -57,9 +57,9 @@ pub fn put_number(buf: &mut [u8], at: usize, width: u8, n: u64)
     ensures { buf.new ≡ splice buf.old at (be width n) }
 {
     match width {
-        1 => wire::put_u8(buf, at, n as u8),
-        2 => wire::put_u16(buf, at, n as u16),
-        4 => wire::put_u32(buf, at, n as u32),
-        _ => wire::put_u64(buf, at, n),
+        1 => wire::put_number(buf, at, n as u8),
+        2 => wire::put_number(buf, at, n as u16),
+        4 => wire::put_number(buf, at, n as u32),
+        _ => wire::put_number(buf, at, n),
     }
 }

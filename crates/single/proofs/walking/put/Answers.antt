@@ -4,13 +4,13 @@ use Rattle.std.proofs.Common.{arith}
 use Rattle.single.proofs.Taking.{all, here, more}
 use Rattle.single.proofs.walking.put.Goals as goal
 
-pub u16_at-size-requires : goal.u16_at-size-requires
-u16_at-size-requires c =
+pub number_at-size-requires : goal.number_at-size-requires
+number_at-size-requires c =
     let l = here _ _ _ _ _ _ c.loop-i.invariant c.loop-i-test.true in
     omega (arith, l.least, l.within)
 
 pub loop-i-preserved : goal.loop-i-preserved
-loop-i-preserved c = more _ _ _ _ _ _ c.loop-i.invariant c.loop-i-test.true c.u16_at-size.ensures
+loop-i-preserved c = more _ _ _ _ _ _ c.loop-i.invariant c.loop-i-test.true c.number_at-size.ensures
 
 pub returns : goal.returns
 returns c = all _ _ _ _ _ _ c.loop-i.invariant c.loop-i-test.false
