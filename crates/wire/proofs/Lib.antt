@@ -5,5 +5,3 @@ pub mod Layouts
 pub mod Place
 pub mod Splice
 pub mod Parts
-pub mod Copying
-mod Halves

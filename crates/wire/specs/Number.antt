@@ -1,6 +1,6 @@
 -- Document 01, "Big endian throughout": a number and its bytes, and a place in lent bytes.
 -- Assumes nothing.
-use Rattle.std.specs.Prelude.{◌≡◌, List, [], ◌∷◌, ◌++◌, ℕ, zero, suc, ◌+◌, ◌*◌, ◌/◌, ◌%◌, ◌^◌, ◌<◌, length, get_or, take, drop}
+use Rattle.std.specs.Prelude.{List, [], ◌∷◌, ◌++◌, ℕ, zero, suc, ◌+◌, ◌*◌, ◌/◌, ◌%◌, ◌^◌, ◌<◌, length, get_or, take, drop}
 
 -- the number that bytes stand for: the first byte weighs most
 abbrev pub num : List ℕ → ℕ
@@ -35,8 +35,3 @@ splice s at bs = take at s ++ (bs ++ drop (at + length bs) s)
 abbrev pub Bytes : List ℕ → Type 0
 Bytes [] = Unit {0}
 Bytes (b ∷ bs) = (b < 256) × Bytes bs
-
--- a byte, widened: the same number, and a byte's size still known
-pub record Widened (b r : ℕ) : Type 0 where
-  pub same : r ≡ b
-  pub small : r < 256

@@ -10,5 +10,5 @@ mod read;
 mod write;
 
 pub use number::{Number, number_at, put_number};
-pub use read::{text_at, u8_at, u16_at, u32_at, u64_at};
-pub use write::{put_text, put_u8, put_u16, put_u32, put_u64};
+pub use read::text_at;
+pub use write::put_text;

@@ -30,7 +30,7 @@ impl Number for u8 {
     }
 
     fn write(self, buf: &mut [u8], at: usize) {
-        put_text(buf, at, &self.to_be_bytes());
+        put_text(buf, at, &u8::to_be_bytes(self));
     }
 }
 
@@ -44,7 +44,7 @@ impl Number for u16 {
     }
 
     fn write(self, buf: &mut [u8], at: usize) {
-        put_text(buf, at, &self.to_be_bytes());
+        put_text(buf, at, &u16::to_be_bytes(self));
     }
 }
 
@@ -58,7 +58,7 @@ impl Number for u32 {
     }
 
     fn write(self, buf: &mut [u8], at: usize) {
-        put_text(buf, at, &self.to_be_bytes());
+        put_text(buf, at, &u32::to_be_bytes(self));
     }
 }
 
@@ -72,7 +72,7 @@ impl Number for u64 {
     }
 
     fn write(self, buf: &mut [u8], at: usize) {
-        put_text(buf, at, &self.to_be_bytes());
+        put_text(buf, at, &u64::to_be_bytes(self));
     }
 }
 
