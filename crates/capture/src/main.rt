@@ -81,8 +81,8 @@ fn finish(rt: &impl Print, owned: &Owned, cut: bool) -> io::Result<()>
     gaps(rt, owned)
 }
 
-// What is held lies between from and to. No contract of a read promises the input's end, so a count of turns,
-// far above the reads of any run, is what the proof ends by.
+// What is held lies between from and to, as `text::input::more` takes it (its clause, `More`). No contract of a read
+// promises the input's end, so a count of turns, far above the reads of any run, is what the proof ends by.
 fn main(rt: HostRuntime) -> io::Result<()> {
     println!(rt; "next end applied answer")?;
     let mut input = rt.stdin();

@@ -63,6 +63,7 @@ pub fn run(rt: &impl Print) -> io::Result<()> {
     )
 }
 
+// `messages` has its like: what would be handed to one function, a case, is all that the two are.
 fn cases(rt: &impl Print, table: &str) -> io::Result<()> {
     for line in table.lines() {
         case(rt, line.as_bytes())?;

@@ -81,7 +81,7 @@ pub fn order_numbers(order: Order) -> [u64; 8]
     ]
 }
 
-// As `session::asking::order` answers, over a session that lies where the host holds it.
+// As `session::asking::order` answers, which takes the session by value: here each question would copy 256 orders.
 pub fn order(session: &Session, room: &Room, id: &[u8; 14]) -> Result<Order, Refusal>
     requires { (window : List ℕ) × Ruled (held session.now room.now window) }
     ensures { result ≡ order_asked (tables_in session.now room.now) id.now }

@@ -8,19 +8,14 @@ use native.Mathlib.Omega.{arith}
 use borrow.Author.Tests.{lt-ltb, le-ltb, eq-eqb, ne_eqb, ltb-false, eqb-true}
 use lib.Dec.{ltb, eqb}
 use lib.ListN.{length}
-use Rattle.wire.specs.Layout.{Value, number_in}
 use Rattle.std.proofs.Common.{Result, Ok, Err, is_err, IsErrAnd}
 use Rattle.std.proofs.lemmas.Result.{err_from_is_err_and}
 use Rattle.refusals.specs.Refusals.{number_of, refusal_by}
 use Rattle.refusals.specs.declared.Refusal.{Refusal}
 use Rattle.refusals.proofs.Numbers.{answered_err, by_number, some_number}
-use Rattle.packet.specs.Header.{Judged, header_from, header_in, header_tests, flags_of, decided, judged, header_of, told}
+use Rattle.packet.specs.Header.{Judged, header_in, header_tests, flags_of, decided, judged, header_of, told}
 use Rattle.packet.specs.declared.header.Header.{Header}
 use Rattle.packet.specs.declared.header.Rejection.{Rejection}
-
--- a header whose fields are the values of a row is the header of that row
-pub row_is : (row : List Value) {size seq flag messages milli : ℕ} → size ≡ number_in row 0 → seq ≡ number_in row 1 → flag ≡ number_in row 2 → messages ≡ number_in row 3 → milli ≡ number_in row 4 → ◌≡◌ {A = Header} (record { size = size; seq = seq; flag = flag; messages = messages; milli = milli }) (header_from row)
-row_is row e0 e1 e2 e3 e4 = cc
 
 pub no_number : (r : Rejection) → number_of r.refusal ≡ 0 → ⊥
 no_number r h = absurd (true≢false (sym (eq-eqb _ _ h) ∙ some_number r.refusal))

@@ -21,6 +21,7 @@ use session::state::Session;
 use session_keeping::keeping;
 use window::places::Window;
 
+// The rule stands in the clauses and is no ghost field: it holds the calls that gave it, and so has more than one proof.
 #[derive(Drop)]
 pub struct Owned {
     pub session: Session,
