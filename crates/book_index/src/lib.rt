@@ -25,6 +25,7 @@ pub const CELLS: usize = PLACES + (CHAINS as usize);
 
 pub const PAIRS: usize = 64;
 
+// The walks below go from cell to cell, over no sequence that an iterator has: `next` is their step.
 // The cell of the head of a key's chain.
 fn head(key: u64) -> usize
     ensures { (result ≡ 256 + chain_of key) × (result < 765) }

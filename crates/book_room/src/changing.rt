@@ -22,6 +22,7 @@ pub struct Name {
 
 // What is to be done in the session's table: the order at a place has these shares and this price; the
 // last one takes its place; or nothing.
+// Three cases of one kind and no `Option` of two: who stores the record matches them at once.
 #[derive(Clone, Copy)]
 pub enum Act {
     Replace(usize, u32, u64),

@@ -7,6 +7,7 @@ ghost use Rattle.book_room.specs.Room.{Counts, room_of, rule_by};
 use crate::room::{APART, RULE};
 use book::tables::OpeningRule;
 
+// 0 or 1 in the room, which C reads: this is the one place that reads it.
 pub fn rule_in(room: &[u64]) -> OpeningRule
     requires { 8 < length room.now }
     ensures { result ≡ rule_by (get_or room.now 8 0) }

@@ -43,6 +43,7 @@ fn replay(rt: &impl Print, owned: &mut Owned, bytes: &[u8]) -> io::Result<Replay
 {
     let mut lines = Lines::new();
     let mut at: usize = 0;
+    // Where a record ends is known once it is looked at.
     while let Some(size) = records::size_at(bytes, at) {
         let start = at + HEAD;
         at += size;

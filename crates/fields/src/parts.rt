@@ -6,6 +6,7 @@ ghost use Rattle.fields.specs.Four.{chars_of, digits_of, four_from, four_of, Beg
 
 use std::num::{wrapping_add_u32, wrapping_sub_u32};
 
+// A number and no `Option`: it is the key that the rooms of sessions hold and that contracts speak of as `number_of`.
 // One above the largest value of twelve characters: no id has it.
 pub const NONE: u64 = 4_738_381_338_321_616_896;
 

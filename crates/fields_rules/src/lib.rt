@@ -38,6 +38,7 @@ pub fn good_price(price: u64) -> bool
     (1..=TOP_PRICE).contains(&price)
 }
 
+// Its lower end is all that differs from `good_price`: a rule of its own, under the name that contracts cite.
 #[tactic(auto, unfolding(fields::specs::Tests::between))]
 pub fn good_inside_price(price: u64) -> bool
     ensures { result ≡ good_inside_price price }

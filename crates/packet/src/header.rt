@@ -59,6 +59,7 @@ pub fn fields(s: &[u8]) -> Header
     }
 }
 
+// Three numbers and not a `Header`: the clause asks nothing of the number and the milliseconds, and the tests of a header to write take no more.
 // A part: the first of 4, 5 and 6 that applies to the fields.
 pub fn flagged(size: u16, flag: u8, messages: u8) -> Result<(), Rejection>
     ensures { told result ≡ judged (decided (flag_tests size flag messages)) }

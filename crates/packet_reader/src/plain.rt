@@ -1,4 +1,5 @@
 // A reader opened, asked and stepped, for a caller that holds no reader: it keeps the packet and the cursor.
+// Each is one step by `open`, `refusal` or `step`: plain parameters are what such a caller has.
 ghost use Rattle.std.specs.Prelude.{◌≡◌};
 ghost use Rattle.packet_reader.specs.Cursors.{behind_of, start_of};
 ghost use Rattle.packet_reader.specs.Reading.{refusal_of};

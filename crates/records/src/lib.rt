@@ -49,6 +49,7 @@ pub fn unmarked(held: &[u8], at: usize) -> bool
     HEAD <= held.len() - at && !marked(held, at)
 }
 
+// 0 is no mark for none here: a session opens at 0 then (`opening_of`).
 // The SeqNum of a packet; 0 where it is under 12 bytes.
 #[tactic(auto, unfolding(crate::specs::Records::opening_of))]
 pub fn number_of(packet: &[u8]) -> u32

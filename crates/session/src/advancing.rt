@@ -99,6 +99,7 @@ pub fn advance(
     let mut next = point.next;
     let mut turn = point.turn;
     let mut rest = point.rest;
+    // A turn is a message or the step to the next packet, so there is no one sequence to go over.
     loop {
         let place = (next % NUMBERS) as usize;
         let here = rest;

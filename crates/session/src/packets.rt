@@ -58,6 +58,7 @@ pub fn take(mut session: Session, room: &mut Room, window: &mut Window, packet: 
     Taken { session, answer }
 }
 
+// A count for the engine, and what is answered: two answers of one test, each one `if`.
 // None is taken where the answers do not fit.
 pub fn due_of(fits: bool, count: usize) -> usize
     ensures { result ≡ cond fits count 0 }

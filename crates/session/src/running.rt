@@ -24,6 +24,7 @@ pub fn ended(count: usize, point: Point) -> Ended
     }
 }
 
+// `packets` and `single` stay two parameters: the definitions (`packets_from`) and the calls of C have them so.
 // Up to so many of the messages that wait are applied; then so many packets of the lent bytes are taken, or
 // all that there are, one after the other. The engine stops at each message that touches an order, and what
 // that message does is stored here.
@@ -46,6 +47,7 @@ pub fn run(
 {
     let mut text = [0u8; Session::MOST];
     let mut point = begin(room, count, due);
+    // `advance` says at each message that touches an order whether there is one.
     loop {
         point = advance(room, window, packets, single, &mut text, answers, point);
         let Some(hand) = point.at_hand else {

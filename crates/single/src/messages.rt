@@ -49,6 +49,7 @@ pub fn read(bytes: &[u8], told: &mut [u64; 14]) -> u64
     }
 }
 
+// A yes or a no, and no refusal yet: `given` makes that of it.
 // The fields put behind a message's header; true where a number does not fit in its field.
 fn fill(numbers: &[u64; 14], words: &[u8], bytes: &mut [u8]) -> bool
     requires { Laid words.now (length bytes.old) }

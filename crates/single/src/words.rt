@@ -24,6 +24,7 @@ pub fn words_of(kind: u8) -> &'static [u8]
     }
 }
 
+// By the width in bytes, which is a count and no kind: the row of a type tells it as the message is read.
 pub fn number_at(s: &[u8], at: usize, width: u8) -> u64
     requires width { Width width }
     requires width_in_bounds { at + width ≤ length s.now }

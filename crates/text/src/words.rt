@@ -2,6 +2,7 @@
 ghost use Rattle.std.specs.Prelude.{◌≡◌};
 ghost use Rattle.text.specs.Words.{word_of, Counts};
 
+// 0 is a count like any other to who asks: no command has so many words (`Counts`).
 // How many words a line has, 0 where one of them is empty.
 pub fn count(line: &[u8]) -> usize
     ensures { Counts line.now result }

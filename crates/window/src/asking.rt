@@ -24,6 +24,7 @@ fn request(buf: &mut [u8], at: usize, start: u32, count: u32)
     wire::put_number(buf, at + 11, b'Y');
 }
 
+// A loop, as `missing::count`: a run begins where the last one ended.
 // One request for each run, one behind the other.
 fn requests_from(window: &Window, from: u64, limit: u64, buf: &mut [u8])
     requires { Room window.now from limit (length buf.old) }

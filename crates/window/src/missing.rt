@@ -12,6 +12,7 @@ fn is_missing(window: &Window, k: u64) -> bool
     places::size_at(window, (k % NUMBERS) as usize).is_none()
 }
 
+// `wanted` is compared and switches nothing; the limit is the answer that the callers go on from, so it is no `Option`.
 // The first number from a place on, below the limit, that is missing or is not, as wanted; else the limit.
 pub fn first_number(window: &Window, wanted: bool, from: u64, limit: u64) -> u64
     requires { from ≤ limit }
@@ -22,6 +23,7 @@ pub fn first_number(window: &Window, wanted: bool, from: u64, limit: u64) -> u64
         .unwrap_or(limit)
 }
 
+// No `Option`: a run of none has the place where the search ended, which `jangsebit_gap` tells.
 // A run of missing numbers, by its start and its count.
 #[derive(Clone, Copy)]
 pub struct Gap {

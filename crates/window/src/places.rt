@@ -1,5 +1,5 @@
 // Parts: one place of the window.
-ghost use Rattle.std.specs.Prelude.{◌≡◌, ◌+◌, ◌*◌, ◌≤◌, ◌<◌, eqb, length};
+ghost use Rattle.std.specs.Prelude.{◌≡◌, ◌+◌, ◌*◌, ◌≤◌, ◌<◌, length};
 ghost use Rattle.wire.specs.Number.{part, splice};
 ghost use Rattle.window.specs.Window.{agreeing, size_at, some_size, start_of, zeros};
 
@@ -28,13 +28,30 @@ pub fn size_at(window: &Window, place: usize) -> Option<usize>
     some_size(wire::number_at::<u16>(window, place * PLACE) as usize)
 }
 
-// What waits at a place, of a message's size, is that message, byte for byte.
-pub fn agree(window: &Window, place: usize, message: &[u8]) -> bool
+// How many bytes from the front agree.
+fn agreeing(there: &[u8], message: &[u8]) -> usize
+    requires { length there.now ≡ length message.now }
+    ensures { result ≡ agreeing there.now message.now }
+{
+    for k in 0..message.len() {
+        if there[k] != message[k] {
+            return k;
+        }
+    }
+    message.len()
+}
+
+// The same of what waits at a place and a message: mostly all of them, which is looked at first.
+pub fn agree(window: &Window, place: usize, message: &[u8]) -> usize
     requires { (place < 256) × (length message.now ≤ 128) }
-    ensures { result ≡ eqb (agreeing (part window.now (start_of place) (length message.now)) message.now) (length message.now) }
+    ensures { result ≡ agreeing (part window.now (start_of place) (length message.now)) message.now }
 {
     let start = place * PLACE;
-    &window[start..start + message.len()] == message
+    let there = &window[start..start + message.len()];
+    if there == message {
+        return message.len();
+    }
+    agreeing(there, message)
 }
 
 // A message kept at a place.

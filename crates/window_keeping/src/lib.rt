@@ -75,6 +75,7 @@ pub fn keep_packets(
     ensures end { result.end ≡ (kept_all (state_of window.old next end) (packets_from false count 0 s.now)).end }
 {
     let mut turn = start(next, end, count);
+    // Where a packet ends is known once it is looked at, so there is no sequence to go over.
     while !done(s, false, turn) {
         turn = keep_next(window, s, answers, turn, next);
     }

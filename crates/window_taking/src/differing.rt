@@ -24,7 +24,7 @@ fn differs_at(window: &Window, next: u64, k: u64, message: &[u8]) -> bool
     if there != message.len() {
         return true;
     }
-    !places::agree(window, place, message)
+    places::agree(window, place, message) != message.len()
 }
 
 pub fn differs(window: &Window, next: u64, s: &[u8], first: u64, messages: u8) -> bool
