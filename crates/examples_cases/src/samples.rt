@@ -1,8 +1,12 @@
 // Parts: a good message of each type, what the cases start from.
+ghost use Rattle.std.specs.Prelude.{◌≤◌, length};
+
 use message::Kind;
 
 // As a packet carries it; none of a type that is not listed.
-pub fn of_type(number: u64) -> &'static [u8] {
+pub fn of_type(number: u64) -> &'static [u8]
+    ensures { length result.now ≤ 55 }
+{
     match Kind::try_from((number % 256) as u8) {
         Ok(Kind::Security) =>
             b"\x00$\x09MSFTF         \x00\x00\x01\x9AG\x03t\x00\x02\x01\x00\x01\x11q\x00\x01\x00AA",
