@@ -1,4 +1,6 @@
 // What is printed: lines put behind one another in a buffer, which is written where the next might not fit.
+ghost use Rattle.std.specs.Prelude.{◌≡◌, ◌≤◌, OnErr};
+
 use refusals::Refusal;
 use std::fmt::Write;
 use std::{fmt, io};
@@ -14,6 +16,7 @@ const LINE: usize = 64;
 pub struct Lines {
     bytes: [u8; BYTES],
     end: usize,
+    ghost within: { end ≤ 8192 },
 }
 
 impl Lines {
@@ -25,12 +28,16 @@ impl Lines {
     }
 
     // To standard output.
-    pub fn write_out(&mut self, rt: &impl Print) -> io::Result<()> {
+    pub fn write_out(&mut self, rt: &impl Print) -> io::Result<()>
+        ensures err { OnErr result (self.new ≡ self.old) }
+    {
         self.end = output::write(rt, &self.bytes, self.end)?;
         Ok(())
     }
 
-    fn make_room(&mut self, rt: &impl Print) -> io::Result<()> {
+    fn make_room(&mut self, rt: &impl Print) -> io::Result<()>
+        ensures err { OnErr result (self.new ≡ self.old) }
+    {
         if self.end < BYTES - LINE {
             return Ok(());
         }

@@ -1,2 +1,3 @@
--- Each call's contract determines it.
+-- Each call's contract determines it; and the law over a broken field.
 pub mod Determined
+pub mod Rules
