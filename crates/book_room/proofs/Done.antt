@@ -32,9 +32,9 @@ module _ {room : List ℕ} {next end : ℕ} {b : Book} {number : ℕ} {s : List 
 
 module _ (next end number : ℕ) {b : Book} {s : List ℕ} {key : ℕ} {topic : List ℕ} {e : Effect} (d : Decided b s key topic e) {now : List ℕ} where
   -- a fault, in any arm
-  module _ {reason : Reason} (is : e ≡ effect.Fault reason) (marked : now ≡ room_of next end (holding_marks b b.code (faulted b.faults number (reason_number reason)))) where
+  module _ {reason : Reason} {told : ℕ} (is : e ≡ effect.Fault reason) (named : told ≡ reason_number reason) (marked : now ≡ room_of next end (holding_marks b b.code (faulted b.faults number told))) where
     fault_room : now ≡ room_of next end (after b number s)
-    fault_room = marked ∙ ap (room_of next end) (fault_done d number is refl)
+    fault_room = marked ∙ ap (λ (n : ℕ). room_of next end (holding_marks b b.code (faulted b.faults number n))) named ∙ ap (room_of next end) (fault_done d number is refl)
 
     fault_orders : (after b number s).orders ≡ b.orders
     fault_orders = sym (ap (λ (x : Book). x.orders) (fault_done d number is refl))

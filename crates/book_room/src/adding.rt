@@ -38,7 +38,7 @@ pub fn add(room: &mut [u64], bytes: &[u8], number: u64) -> Option<Placed>
     let live = room[LIVE] as usize;
     match book_deciding::add(bytes, key, order, live) {
         Effect::Fault(reason) => {
-            mark(room, number, reason);
+            mark(room, number, reason.number());
             None
         }
         _ => {

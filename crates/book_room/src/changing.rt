@@ -76,7 +76,7 @@ pub fn change(
             Act::Remove(place, last)
         }
         Effect::Fault(reason) => {
-            mark(room, number, reason);
+            mark(room, number, reason.number());
             Act::Nothing
         }
         _ => Act::Nothing,

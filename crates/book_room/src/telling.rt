@@ -77,7 +77,7 @@ pub fn tell(room: &mut [u64], bytes: &[u8], number: u64)
             enter(room, held, symbol);
         }
         Effect::Record(code) => room[CODE] = code as u64,
-        Effect::Fault(reason) => mark(room, number, reason),
+        Effect::Fault(reason) => mark(room, number, reason.number()),
         Effect::CountApart => count_apart(room, number),
         _ => {}
     }

@@ -59,7 +59,7 @@ enter-requires c =
 pub returns-in-Fault : goal.returns-in-Fault
 returns-in-Fault c next end b h =
     added_fault next end c.args.number (decided h c.requires.bytes_value c.key_at-key.ensures c.found-order.ensures c.add.ensures)
-    c.in-Fault.is (c.mark.ensures next end b (counts h))
+    c.in-Fault.is c.number.ensures (c.mark.ensures next end b (counts h))
 
 pub returns-in_default : goal.returns-in_default
 returns-in_default c next end b h =

@@ -45,7 +45,7 @@ returns-in-Remove c next end b k =
 pub returns-in-Fault : goal.returns-in-Fault
 returns-in-Fault c next end b k =
     changed_fault next end c.args.number (decided k c.change.ensures)
-    c.in-Fault.is (c.mark.ensures next end b (counts k.houses))
+    c.in-Fault.is c.number.ensures (c.mark.ensures next end b (counts k.houses))
 
 pub returns-in_default : goal.returns-in_default
 returns-in_default c next end b k =

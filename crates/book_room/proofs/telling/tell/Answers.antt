@@ -102,7 +102,7 @@ returns-in-Record c next end b h =
 pub returns-in-Fault : goal.returns-in-Fault
 returns-in-Fault c next end b h =
     told_fault next end c.args.number (decided h c.told-inside.ensures c.rule_in-rule.ensures c.tell.ensures)
-    c.in-Fault.is (c.mark.ensures next end b (counts h))
+    c.in-Fault.is c.number.ensures (c.mark.ensures next end b (counts h))
 
 pub returns-in-CountApart : goal.returns-in-CountApart
 returns-in-CountApart c next end b h =
