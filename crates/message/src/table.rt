@@ -26,6 +26,7 @@ pub struct Payloads {
     ghost listed: { by_type ≡ payload_table },
 }
 
+// A part: one copy of it.
 pub fn sizes() -> Payloads
     ensures { result.by_type ≡ payload_table }
 {
