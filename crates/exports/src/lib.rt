@@ -12,7 +12,7 @@ mod taking;
 
 ghost use Rattle.std.specs.Prelude.{◌≡◌, ℕ, List, length};
 ghost use Rattle.merge.specs.State.{apply_some, opened};
-ghost use Rattle.session.specs.Meaning.{held, overnight, rep, tables_in, view, Ruled, Sized};
+ghost use Rattle.session.specs.Meaning.{held, overnight, rep, tables_in, view, Ruled};
 ghost use Rattle.session.specs.Bursts.{applied_by};
 ghost use Rattle.book.specs.Asking.{order_asked};
 ghost use Rattle.book.specs.Tables.{fresh};
@@ -52,7 +52,6 @@ pub fn jangsebit_version() -> u32
 // A fresh session for an opening number. Whatever stood in the three is gone. A type that is not in the table is
 // counted apart.
 pub fn jangsebit_open(session: &mut Session, room: &mut Room, window: &mut Window, number: u32)
-    requires { Sized room.old window.old }
     ensures opened { held session.new room.new window.new ≡ rep (opened (fresh Default) number) }
     ensures rule { Ruled (held session.new room.new window.new) }
 {
@@ -66,7 +65,6 @@ pub fn jangsebit_open_strict(
     window: &mut Window,
     number: u32,
 )
-    requires { Sized room.old window.old }
     ensures opened { held session.new room.new window.new ≡ rep (opened (fresh Strict) number) }
     ensures rule { Ruled (held session.new room.new window.new) }
 {

@@ -10,7 +10,7 @@ mod sizes;
 
 ghost use Rattle.std.specs.Prelude.{◌≡◌, ℕ, List, length};
 ghost use Rattle.merge.specs.State.{apply_some, opened};
-ghost use Rattle.session.specs.Meaning.{held, overnight, rep, tables_in, view, Ruled, Sized};
+ghost use Rattle.session.specs.Meaning.{held, overnight, rep, tables_in, view, Ruled};
 ghost use Rattle.session.specs.Bursts.{applied_by};
 ghost use Rattle.book.specs.Asking.{order_asked};
 ghost use Rattle.book.specs.Tables.{fresh};
@@ -52,7 +52,6 @@ pub extern "C" fn jangsebit_open(
     window: &mut Window,
     number: u32,
 )
-    requires { Sized room.old window.old }
     ensures opened { held session.new room.new window.new ≡ rep (opened (fresh Default) number) }
     ensures rule { Ruled (held session.new room.new window.new) }
 {
@@ -67,7 +66,6 @@ pub extern "C" fn jangsebit_open_strict(
     window: &mut Window,
     number: u32,
 )
-    requires { Sized room.old window.old }
     ensures opened { held session.new room.new window.new ≡ rep (opened (fresh Strict) number) }
     ensures rule { Ruled (held session.new room.new window.new) }
 {

@@ -1,8 +1,10 @@
 // The listed types and their numbers.
 ghost use Rattle.std.specs.Prelude.{◌≡◌};
+ghost use Rattle.message.specs.Row.{type_of_terms};
 ghost use Rattle.message.specs.Table.{payload_of};
 ghost use Rattle.message.specs.Types.{type_number, Names};
 
+use crate::kinds::Terms;
 use crate::table::PAYLOAD;
 
 // An execution has a type of its own where it has a price of its own.
@@ -74,6 +76,17 @@ impl TryFrom<u8> for Kind {
             27 => Ok(Kind::Trade),
             28 => Ok(Kind::Imbalance),
             _ => Err(NoKind(number)),
+        }
+    }
+}
+
+impl From<Terms> for Kind {
+    ghost from_gives = { λ terms kind. type_number kind ≡ type_of_terms terms };
+
+    fn from(terms: Terms) -> Kind {
+        match terms {
+            Terms::Published => Kind::Execution,
+            Terms::Own(_) => Kind::Priced,
         }
     }
 }

@@ -26,8 +26,7 @@ pub fn read(s: &[u8]) -> Result<Message, Refusal>
         return Err(Refusal::BadMessage);
     }
     let kind = wire::number_at::<u8>(s, 2);
-    let sizes = table::sizes();
-    if table::too_short(&sizes, kind, n) {
+    if table::sizes().too_short(kind, n) {
         return Err(Refusal::BadMessage);
     }
     let message = parts::fields(s, kind);

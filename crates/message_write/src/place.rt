@@ -2,30 +2,19 @@
 ghost use Rattle.std.specs.Prelude.{[], ◌∷◌, ◌≡◌, ◌+◌, ◌≤◌, length};
 ghost use Rattle.wire.specs.Layout.{number_is, put_row, width_of};
 ghost use Rattle.message.specs.Layouts as layouts;
-ghost use Rattle.message.specs.Row.{type_of_terms};
 ghost use Rattle.message.specs.Types.{type_number, type_or_none};
 ghost use Rattle.message_write.specs.Writing.{answer_of, buffer_after, message_size, write_of, written_type};
 
-use message::{Body, Kind, Message, Terms};
+use message::{Body, Kind, Message};
 use message_put::put;
 use refusals::Refusal;
-
-fn kind_of_terms(terms: Terms) -> Kind
-    ensures { type_number result ≡ type_of_terms terms }
-{
-    match terms {
-        Terms::Published => Kind::Execution,
-        Terms::Own(_) => Kind::Priced,
-    }
-}
 
 // The type that a message is written with, if it is written.
 #[tactic(auto, using(crate::proofs::ByKind::kind_type))]
 fn kind_of(message: Message) -> Option<Kind>
     ensures { type_or_none result ≡ written_type message }
 {
-    let body = message.body;
-    match body {
+    match message.body {
         Body::Security { .. } => Some(Kind::Security),
         Body::SpinStart { .. } => Some(Kind::SpinStart),
         Body::SpinEnd { .. } => Some(Kind::SpinEnd),
@@ -33,7 +22,7 @@ fn kind_of(message: Message) -> Option<Kind>
         Body::Add { .. } => Some(Kind::Add),
         Body::Update { .. } => Some(Kind::Update),
         Body::Delete { .. } => Some(Kind::Delete),
-        Body::Execution { terms, .. } => Some(kind_of_terms(terms)),
+        Body::Execution { terms, .. } => Some(Kind::from(terms)),
         Body::Top { .. } => Some(Kind::Top),
         Body::Trade { .. } => Some(Kind::Trade),
         Body::Other(_) => None,

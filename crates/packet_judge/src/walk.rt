@@ -1,14 +1,12 @@
 // Parts: the walk over a packet's messages. It steps by MessageSize.
 ghost use Rattle.std.specs.Prelude.{◌≡◌, ◌≤◌, length};
-ghost use Rattle.message.specs.Table.{payload_table};
 ghost use Rattle.packet.specs.Walk.{some_size, step_at, walk_from};
 
 use message::table::Payloads;
 
 // The size of the message at a place, by the payload table; none where it is at fault.
 fn step_by(s: &[u8], sizes: &Payloads, at: usize) -> Option<usize>
-    requires at_in_bounds { at ≤ length s.now }
-    requires sizes_value { sizes.now ≡ payload_table }
+    requires { at ≤ length s.now }
     ensures { result ≡ some_size (step_at s.now at) }
 {
     let left = s.len() - at;
@@ -25,7 +23,7 @@ fn step_by(s: &[u8], sizes: &Payloads, at: usize) -> Option<usize>
     if left < size {
         return None;
     }
-    if message::table::too_short(sizes, wire::number_at(s, at + 2), size) {
+    if sizes.too_short(wire::number_at(s, at + 2), size) {
         return None;
     }
     Some(size)

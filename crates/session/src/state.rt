@@ -3,7 +3,7 @@ ghost use Rattle.std.specs.Prelude.{◌≡◌};
 ghost use Rattle.merge.specs.State.{opened};
 ghost use Rattle.book.specs.Tables.{fresh};
 ghost use Rattle.book_room.specs.Room.{rule_number};
-ghost use Rattle.session.specs.Meaning.{held, rep, Ruled, Sized};
+ghost use Rattle.session.specs.Meaning.{held, rep, Ruled};
 
 use book::tables;
 use book::tables::{OpeningRule, Order, no_order};
@@ -48,7 +48,6 @@ impl Session {
     // Whatever stood in the room and the window is gone. A type that is not in the table is counted apart, or
     // is fault 1 under the strict rule.
     pub fn open(number: u32, rule: OpeningRule, room: &mut Room, window: &mut Window) -> Self
-        requires { Sized room.old window.old }
         ensures opened { held result room.new window.new ≡ rep (opened (fresh rule) number) }
         ensures rule { Ruled (held result room.new window.new) }
     {

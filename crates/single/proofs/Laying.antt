@@ -1,11 +1,10 @@
 -- The widths of a type, and the numbers that stand in a message's bytes: computed for each type.
 -- Assumes nothing.
 use mathlib.Core.Path.{◌≡◌, refl, ap, ◌∙◌, sym, subst}
-use mathlib.Core.Bool.{Bool, true, false, ◌&&◌, ◌||◌, true≢false}
+use mathlib.Core.Bool.{true, false, true≢false}
 use mathlib.Core.List.{List, [], ◌∷◌}
-use mathlib.Core.Logic.{◌⊎◌, inl, inr}
 use Prim.Native.Nat.{ℕ, ◌+◌, ◌≤◌}
-use borrow.Author.Tests.{eqb-true, leb-true}
+use borrow.Author.Tests.{eq-eqb, leb-true}
 use lib.Dec.{eqb, leb}
 use lib.ListN.{length, set}
 use Rattle.wire.specs.Layout.{Field}
@@ -19,18 +18,7 @@ use Rattle.message.specs.declared.kinds.Message.{Message}
 use Rattle.message.proofs.Cases.{by_type, room, unlisted, unopened, Unopened}
 use Rattle.message.proofs.Readings.{taken, Taken}
 use Rattle.single.specs.Over.{over, over_from}
-use Rattle.single.specs.Words.{message_numbers, message_told, total, widths_of, words_at, Laid, Width, Widths}
-
--- ---- a width that is none of the first three
-
-abbrev Rest : ℕ → Type 0
-Rest w = (((Unit {0} × (w ≡ 1 → ⊥)) × (w ≡ 2 → ⊥)) × (w ≡ 4 → ⊥))
-
-pub last : {w : ℕ} → Width w → Rest w → w ≡ 8
-last (inl e) h = absurd (h.0.0.1 e)
-last (inr (inl e)) h = absurd (h.0.1 e)
-last (inr (inr (inl e))) h = absurd (h.1 e)
-last (inr (inr (inr e))) h = e
+use Rattle.single.specs.Words.{message_numbers, message_told, total, widths_of, words_at, Laid}
 
 -- ---- by type
 
@@ -38,58 +26,27 @@ pub layout-none : (t : ℕ) → Unopened t → [] ≡ layout_of t
 unfolding layout_of
 layout-none t h = unlisted _ _ _ _ _ _ _ _ _ _ _ [] t h
 
--- all of them are widths, and as many as there may be
-is_width : ℕ → Bool
-is_width w = eqb w 1 || (eqb w 2 || (eqb w 4 || eqb w 8))
+other : (n : ℕ) → eqb n 255 ≡ false → n ≡ 255 → ⊥
+other n f e = true≢false (sym (eq-eqb n 255 e) ∙ f)
 
-all_widths : List ℕ → Bool
-all_widths [] = true
-all_widths (w ∷ ws) = is_width w && all_widths ws
+-- a type that is not listed has no fields
+pub layout-unlisted : (t : ℕ) → payload_of t ≡ 255 → [] ≡ layout_of t
+unfolding payload_of
+layout-unlisted =
+    by_type (λ (t : ℕ). payload_of t ≡ 255 → [] ≡ layout_of t)
+    (λ h. absurd (other _ refl h)) (λ h. absurd (other _ refl h)) (λ h. absurd (other _ refl h)) (λ h. absurd (other _ refl h)) (λ h. absurd (other _ refl h)) (λ h. absurd (other _ refl h))
+    (λ h. absurd (other _ refl h)) (λ h. absurd (other _ refl h)) (λ h. absurd (other _ refl h)) (λ h. absurd (other _ refl h)) (λ h. absurd (other _ refl h))
+    (λ t u h. layout-none t u)
 
-either : (a b : Bool) → (a || b) ≡ true → (a ≡ true) ⊎ (b ≡ true)
-either true b h = inl refl
-either false b h = inr h
-
-both : (a b : Bool) → (a && b) ≡ true → (a ≡ true) × (b ≡ true)
-both true b h = (refl, h)
-both false b h = (h, absurd (true≢false (sym h)))
-
-is_width_lem : (w : ℕ) → is_width w ≡ true → Width w
-unfolding is_width
-is_width_lem w h = at1 (either (eqb w 1) _ h)
-  where
-    at4 : (eqb w 4 ≡ true) ⊎ (eqb w 8 ≡ true) → (w ≡ 4) ⊎ (w ≡ 8)
-    at4 (inl e) = inl (eqb-true w 4 e)
-    at4 (inr e) = inr (eqb-true w 8 e)
-
-    at2 : (eqb w 2 ≡ true) ⊎ ((eqb w 4 || eqb w 8) ≡ true) → (w ≡ 2) ⊎ ((w ≡ 4) ⊎ (w ≡ 8))
-    at2 (inl e) = inl (eqb-true w 2 e)
-    at2 (inr e) = inr (at4 (either (eqb w 4) _ e))
-
-    at1 : (eqb w 1 ≡ true) ⊎ ((eqb w 2 || (eqb w 4 || eqb w 8)) ≡ true) → Width w
-    at1 (inl e) = inl (eqb-true w 1 e)
-    at1 (inr e) = inr (at2 (either (eqb w 2) _ e))
-
-are_widths : (ws : List ℕ) → all_widths ws ≡ true → Widths ws
-unfolding all_widths
-are_widths [] h = tt
-are_widths (w ∷ ws) h = let e = both (is_width w) (all_widths ws) h in (is_width_lem w e.0, are_widths ws e.1)
-
-sound : List ℕ → Bool
-sound ws = leb (length ws) 13 && all_widths ws
-
-laid_by : (ws : List ℕ) (n : ℕ) → sound ws ≡ true → 3 ≤ n → 3 + total ws ≤ n → Laid ws n
-unfolding sound
-laid_by ws n h head room =
-    let e = both (leb (length ws) 13) _ h in
-    record { most = leb-true _ _ e.0; widths = are_widths _ e.1; head = head; room = room }
+laid_by : (ws : List ℕ) (n : ℕ) → leb (length ws) 13 ≡ true → 3 ≤ n → 3 + total ws ≤ n → Laid ws n
+laid_by ws n h head room = record { most = leb-true _ _ h; head = head; room = room }
 
 -- a message that is not too short has room for its fields
 abbrev IsLaid : ℕ → Type 0
 IsLaid t = (n : ℕ) → 3 ≤ n → too_short t n ≡ false → Laid (widths_of (layout_of t)) n
 
 pub laid : (t : ℕ) → IsLaid t
-unfolding layout_of payload_of sound all_widths is_width
+unfolding layout_of payload_of
 laid =
     by_type IsLaid
     (λ n l h. laid_by (widths_of (layout_of 9)) n refl l (room 9 n refl refl h))

@@ -1,12 +1,14 @@
 -- The fields of a message as numbers of 1, 2, 4 or 8 bytes, in the order of its layout.
 -- Assumes nothing.
-use Rattle.std.specs.Prelude.{◌≡◌, cond, List, [], ◌∷◌, ◌++◌, ◌⊎◌, ℕ, ◌+◌, ◌≤◌, eqb, length, Result}
+use Rattle.std.specs.Prelude.{cond, List, [], ◌∷◌, ◌++◌, ℕ, ◌+◌, ◌≤◌, eqb, length, Result}
 use Rattle.refusals.specs.declared.Refusal.{Refusal}
 use Rattle.wire.specs.Layout.{Field, number, text, Value, number_is, text_is}
 use Rattle.wire.specs.Number.{num, part}
 use Rattle.message.specs.Row.{row_of, type_of}
 use Rattle.message.specs.declared.kinds.Message.{Message}
 use Rattle.single.specs.Told.{told_by}
+use Rattle.single.specs.declared.words.Width.{Width}
+use Rattle.single.specs.declared.words.Width.TheVariants.{One, Two, Four, Eight}
 
 -- a number is one; a text of 14 bytes is three, its first eight bytes, the next four and the last two; a shorter one is one
 abbrev pub widths_in : Field → List ℕ
@@ -39,20 +41,24 @@ message_numbers m = type_of m ∷ numbers_of (row_of m)
 abbrev pub message_told : Result Message Refusal → List ℕ → List ℕ
 message_told = told_by message_numbers
 
-abbrev pub Width : ℕ → Type 0
-Width w = (w ≡ 1) ⊎ ((w ≡ 2) ⊎ ((w ≡ 4) ⊎ (w ≡ 8)))
+-- ---- the widths of a row
 
-abbrev pub Widths : List ℕ → Type 0
-Widths [] = Unit {0}
-Widths (w ∷ ws) = Width w × Widths ws
+abbrev pub bytes_in : Width → ℕ
+bytes_in One = 1
+bytes_in Two = 2
+bytes_in Four = 4
+bytes_in Eight = 8
+
+abbrev pub counts : List Width → List ℕ
+counts [] = []
+counts (w ∷ ws) = bytes_in w ∷ counts ws
 
 abbrev pub total : List ℕ → ℕ
 total [] = 0
 total (w ∷ ws) = w + total ws
 
--- they are such widths, no more than there are numbers, and behind a message's header n bytes have room for them
+-- they are no more than there are numbers, and behind a message's header n bytes have room for them
 pub record Laid (ws : List ℕ) (n : ℕ) : Type 0 where
   pub most : length ws ≤ 13
-  pub widths : Widths ws
   pub head : 3 ≤ n
   pub room : 3 + total ws ≤ n

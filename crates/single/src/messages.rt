@@ -7,21 +7,21 @@ ghost use Rattle.single.specs.Over.{over, over_from};
 ghost use Rattle.single.specs.Given.{bytes_from, given_buffer, given_of, message_if, wide_from};
 ghost use Rattle.refusals.specs.Refusals.{refusal_in};
 ghost use Rattle.single.specs.Told.{number_told};
-ghost use Rattle.single.specs.Words.{message_told, widths_of, words_at, Laid};
+ghost use Rattle.single.specs.Words.{counts, message_told, widths_of, words_at, Laid};
 
 use crate::telling;
-use crate::words::{number_at, put_number, too_wide, words_of};
+use crate::words::{Width, number_at, put_number, too_wide, words_of};
 use message::Message;
 use refusals::Refusal;
 
-fn tell_fields(s: &[u8], words: &[u8], told: &mut [u64; 14])
-    requires { Laid words.now (length s.now) }
-    ensures { told.new ≡ over_from 1 (words_at words.now 3 s.now) told.old }
+fn tell_fields(s: &[u8], words: &[Width], told: &mut [u64; 14])
+    requires { Laid (counts words.now) (length s.now) }
+    ensures { told.new ≡ over_from 1 (words_at (counts words.now) 3 s.now) told.old }
 {
     let mut at = 3;
     for (k, &width) in words.iter().enumerate() {
         told[k + 1] = number_at(s, at, width);
-        at += width as usize;
+        at += width.bytes();
     }
 }
 
@@ -51,10 +51,10 @@ pub fn read(bytes: &[u8], told: &mut [u64; 14]) -> u64
 
 // A yes or a no, and no refusal yet: `given` makes that of it.
 // The fields put behind a message's header; true where a number does not fit in its field.
-fn fill(numbers: &[u64; 14], words: &[u8], bytes: &mut [u8]) -> bool
-    requires { Laid words.now (length bytes.old) }
-    ensures wide { result ≡ wide_from words.now 1 numbers.now }
-    ensures bytes { result ≡ false → bytes.new ≡ splice bytes.old 3 (bytes_from words.now 1 numbers.now) }
+fn fill(numbers: &[u64; 14], words: &[Width], bytes: &mut [u8]) -> bool
+    requires { Laid (counts words.now) (length bytes.old) }
+    ensures wide { result ≡ wide_from (counts words.now) 1 numbers.now }
+    ensures bytes { result ≡ false → bytes.new ≡ splice bytes.old 3 (bytes_from (counts words.now) 1 numbers.now) }
 {
     let mut at = 3;
     for (k, &width) in words.iter().enumerate() {
@@ -63,7 +63,7 @@ fn fill(numbers: &[u64; 14], words: &[u8], bytes: &mut [u8]) -> bool
             return true;
         }
         put_number(bytes, at, width, n);
-        at += width as usize;
+        at += width.bytes();
     }
     false
 }

@@ -2,65 +2,91 @@
 ghost use Rattle.std.specs.Prelude.{◌≡◌, ◌+◌, ◌<◌, ◌^◌, ◌≤◌, leb, length};
 ghost use Rattle.wire.specs.Number.{be, num, part, splice};
 ghost use Rattle.message.specs.Layouts.{layout_of};
-ghost use Rattle.single.specs.Words.{widths_of, Width};
+ghost use Rattle.single.specs.Words.{bytes_in, counts, widths_of};
 
-// The widths by type, of 28 and unlisted types none.
-pub fn words_of(kind: u8) -> &'static [u8]
-    ensures { result.now ≡ widths_of (layout_of kind) }
-{
-    match kind {
-        9 => &[8, 4, 2, 8, 1, 1, 4, 2, 1, 1, 1],
-        11 => &[1, 8, 4],
-        12 => &[1, 4, 8, 4],
-        20 => &[8, 1],
-        21 => &[4, 8, 4, 2, 1, 4, 8, 4, 2, 8, 4, 1, 2],
-        22 => &[4, 8, 4, 2, 4, 8, 2],
-        23 => &[4, 8, 4, 2],
-        24 => &[4, 8, 4, 2, 4, 4, 8],
-        25 => &[4, 8, 4, 2, 4, 4, 8, 8],
-        26 => &[4, 8, 4, 2, 8, 4, 8, 4, 1],
-        27 => &[4, 1, 4, 8, 4, 2, 8, 8, 8],
-        _ => &[],
+use crate::words::Width::{Eight, Four, One, Two};
+use message::Kind;
+
+// How many bytes a number takes.
+#[derive(Clone, Copy)]
+pub enum Width {
+    One,
+    Two,
+    Four,
+    Eight,
+}
+
+impl Width {
+    pub fn bytes(self) -> usize
+        ensures { result ≡ bytes_in self }
+    {
+        match self {
+            Width::One => 1,
+            Width::Two => 2,
+            Width::Four => 4,
+            Width::Eight => 8,
+        }
     }
 }
 
-// By the width in bytes, which is a count and no kind: the row of a type tells it as the message is read.
-pub fn number_at(s: &[u8], at: usize, width: u8) -> u64
-    requires width { Width width }
-    requires width_in_bounds { at + width ≤ length s.now }
-    ensures { result ≡ num (part s.now at width) }
+// The widths by type, of 28 and unlisted types none.
+pub fn words_of(kind: u8) -> &'static [Width]
+    ensures { counts result.now ≡ widths_of (layout_of kind) }
+{
+    let Ok(kind) = Kind::try_from(kind) else {
+        return &[];
+    };
+    match kind {
+        Kind::Security => &[Eight, Four, Two, Eight, One, One, Four, Two, One, One, One],
+        Kind::SpinStart => &[One, Eight, Four],
+        Kind::SpinEnd => &[One, Four, Eight, Four],
+        Kind::TradingSession => &[Eight, One],
+        Kind::Add => &[
+            Four, Eight, Four, Two, One, Four, Eight, Four, Two, Eight, Four, One, Two,
+        ],
+        Kind::Update => &[Four, Eight, Four, Two, Four, Eight, Two],
+        Kind::Delete => &[Four, Eight, Four, Two],
+        Kind::Execution => &[Four, Eight, Four, Two, Four, Four, Eight],
+        Kind::Priced => &[Four, Eight, Four, Two, Four, Four, Eight, Eight],
+        Kind::Top => &[Four, Eight, Four, Two, Eight, Four, Eight, Four, One],
+        Kind::Trade => &[Four, One, Four, Eight, Four, Two, Eight, Eight, Eight],
+        Kind::Imbalance => &[],
+    }
+}
+
+pub fn number_at(s: &[u8], at: usize, width: Width) -> u64
+    requires width_in_bounds { at + bytes_in width ≤ length s.now }
+    ensures { result ≡ num (part s.now at (bytes_in width)) }
 {
     match width {
-        1 => wire::number_at::<u8>(s, at) as u64,
-        2 => wire::number_at::<u16>(s, at) as u64,
-        4 => wire::number_at::<u32>(s, at) as u64,
-        _ => wire::number_at(s, at),
+        Width::One => wire::number_at::<u8>(s, at) as u64,
+        Width::Two => wire::number_at::<u16>(s, at) as u64,
+        Width::Four => wire::number_at::<u32>(s, at) as u64,
+        Width::Eight => wire::number_at(s, at),
     }
 }
 
 // A number does not fit in so many bytes.
-pub fn too_wide(width: u8, n: u64) -> bool
-    requires { Width width }
-    ensures { result ≡ leb (256 ^ width) n }
+pub fn too_wide(width: Width, n: u64) -> bool
+    ensures { result ≡ leb (256 ^ bytes_in width) n }
 {
     match width {
-        1 => 256 <= n,
-        2 => 65536 <= n,
-        4 => 4294967296 <= n,
-        _ => false,
+        Width::One => 256 <= n,
+        Width::Two => 65536 <= n,
+        Width::Four => 4294967296 <= n,
+        Width::Eight => false,
     }
 }
 
-pub fn put_number(buf: &mut [u8], at: usize, width: u8, n: u64)
-    requires width { Width width }
-    requires width_in_bounds { at + width ≤ length buf.old }
-    requires n_bound { n < 256 ^ width }
-    ensures { buf.new ≡ splice buf.old at (be width n) }
+pub fn put_number(buf: &mut [u8], at: usize, width: Width, n: u64)
+    requires width_in_bounds { at + bytes_in width ≤ length buf.old }
+    requires n_bound { n < 256 ^ bytes_in width }
+    ensures { buf.new ≡ splice buf.old at (be (bytes_in width) n) }
 {
     match width {
-        1 => wire::put_number(buf, at, n as u8),
-        2 => wire::put_number(buf, at, n as u16),
-        4 => wire::put_number(buf, at, n as u32),
-        _ => wire::put_number(buf, at, n),
+        Width::One => wire::put_number(buf, at, n as u8),
+        Width::Two => wire::put_number(buf, at, n as u16),
+        Width::Four => wire::put_number(buf, at, n as u32),
+        Width::Eight => wire::put_number(buf, at, n),
     }
 }

@@ -2,54 +2,60 @@
 -- Assumes nothing.
 use Rattle.std.proofs.Common.{ℕ, List, ap, sym, rules}
 use Rattle.message.specs.Layouts.{layout_of}
+use Rattle.message.specs.declared.types.Kind.TheVariants.{Security, SpinStart, SpinEnd, TradingSession, Add, Update, Delete, Execution, Priced, Top, Trade, Imbalance}
+use Rattle.message.proofs.Listed.{number_is}
 use Rattle.single.specs.Words.{widths_of}
-use Rattle.single.proofs.Laying.{layout-none}
+use Rattle.single.proofs.Laying.{layout-unlisted}
 use Rattle.wire.specs.Layout.{Field}
 use Rattle.single.proofs.words.words_of.Goals as goal
 
-pub returns-in-9 : goal.returns-in-9
+pub returns-in-Security : goal.returns-in-Security
 unfolding layout_of
-returns-in-9 c = sym (ap (λ (t : ℕ). widths_of (layout_of t)) c.in-9.is)
+returns-in-Security c = sym (ap (λ (t : ℕ). widths_of (layout_of t)) (number_is Security c.in-Ok.ensures c.in-Security.is))
 
-pub returns-in-11 : goal.returns-in-11
+pub returns-in-SpinStart : goal.returns-in-SpinStart
 unfolding layout_of
-returns-in-11 c = sym (ap (λ (t : ℕ). widths_of (layout_of t)) c.in-11.is)
+returns-in-SpinStart c = sym (ap (λ (t : ℕ). widths_of (layout_of t)) (number_is SpinStart c.in-Ok.ensures c.in-SpinStart.is))
 
-pub returns-in-12 : goal.returns-in-12
+pub returns-in-SpinEnd : goal.returns-in-SpinEnd
 unfolding layout_of
-returns-in-12 c = sym (ap (λ (t : ℕ). widths_of (layout_of t)) c.in-12.is)
+returns-in-SpinEnd c = sym (ap (λ (t : ℕ). widths_of (layout_of t)) (number_is SpinEnd c.in-Ok.ensures c.in-SpinEnd.is))
 
-pub returns-in-20 : goal.returns-in-20
+pub returns-in-TradingSession : goal.returns-in-TradingSession
 unfolding layout_of
-returns-in-20 c = sym (ap (λ (t : ℕ). widths_of (layout_of t)) c.in-20.is)
+returns-in-TradingSession c = sym (ap (λ (t : ℕ). widths_of (layout_of t)) (number_is TradingSession c.in-Ok.ensures c.in-TradingSession.is))
 
-pub returns-in-21 : goal.returns-in-21
+pub returns-in-Add : goal.returns-in-Add
 unfolding layout_of
-returns-in-21 c = sym (ap (λ (t : ℕ). widths_of (layout_of t)) c.in-21.is)
+returns-in-Add c = sym (ap (λ (t : ℕ). widths_of (layout_of t)) (number_is Add c.in-Ok.ensures c.in-Add.is))
 
-pub returns-in-22 : goal.returns-in-22
+pub returns-in-Update : goal.returns-in-Update
 unfolding layout_of
-returns-in-22 c = sym (ap (λ (t : ℕ). widths_of (layout_of t)) c.in-22.is)
+returns-in-Update c = sym (ap (λ (t : ℕ). widths_of (layout_of t)) (number_is Update c.in-Ok.ensures c.in-Update.is))
 
-pub returns-in-23 : goal.returns-in-23
+pub returns-in-Delete : goal.returns-in-Delete
 unfolding layout_of
-returns-in-23 c = sym (ap (λ (t : ℕ). widths_of (layout_of t)) c.in-23.is)
+returns-in-Delete c = sym (ap (λ (t : ℕ). widths_of (layout_of t)) (number_is Delete c.in-Ok.ensures c.in-Delete.is))
 
-pub returns-in-24 : goal.returns-in-24
+pub returns-in-Execution : goal.returns-in-Execution
 unfolding layout_of
-returns-in-24 c = sym (ap (λ (t : ℕ). widths_of (layout_of t)) c.in-24.is)
+returns-in-Execution c = sym (ap (λ (t : ℕ). widths_of (layout_of t)) (number_is Execution c.in-Ok.ensures c.in-Execution.is))
 
-pub returns-in-25 : goal.returns-in-25
+pub returns-in-Priced : goal.returns-in-Priced
 unfolding layout_of
-returns-in-25 c = sym (ap (λ (t : ℕ). widths_of (layout_of t)) c.in-25.is)
+returns-in-Priced c = sym (ap (λ (t : ℕ). widths_of (layout_of t)) (number_is Priced c.in-Ok.ensures c.in-Priced.is))
 
-pub returns-in-26 : goal.returns-in-26
+pub returns-in-Top : goal.returns-in-Top
 unfolding layout_of
-returns-in-26 c = sym (ap (λ (t : ℕ). widths_of (layout_of t)) c.in-26.is)
+returns-in-Top c = sym (ap (λ (t : ℕ). widths_of (layout_of t)) (number_is Top c.in-Ok.ensures c.in-Top.is))
 
-pub returns-in-27 : goal.returns-in-27
+pub returns-in-Trade : goal.returns-in-Trade
 unfolding layout_of
-returns-in-27 c = sym (ap (λ (t : ℕ). widths_of (layout_of t)) c.in-27.is)
+returns-in-Trade c = sym (ap (λ (t : ℕ). widths_of (layout_of t)) (number_is Trade c.in-Ok.ensures c.in-Trade.is))
+
+pub returns-in-Imbalance : goal.returns-in-Imbalance
+unfolding layout_of
+returns-in-Imbalance c = sym (ap (λ (t : ℕ). widths_of (layout_of t)) (number_is Imbalance c.in-Ok.ensures c.in-Imbalance.is))
 
 pub returns-in_default : goal.returns-in_default
-returns-in_default c = ap (λ (fs : List Field). widths_of fs) (layout-none c.args.kind (search rules))
+returns-in_default c = ap (λ (fs : List Field). widths_of fs) (layout-unlisted c.args.kind (search rules))

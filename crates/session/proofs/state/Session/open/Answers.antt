@@ -16,6 +16,6 @@ pub returns : goal.returns
 returns c =
     let fresh =
     opened_with c.args.rule c.args.number c.rule_number.ensures c.no_order-order.ensures
-    (c.fill-2.ensures.after (λ y e. e) ∙ ap zeros c.requires.numbers)
-    (c.fill.ensures.after (λ y e. e) ∙ ap zeros c.requires.bytes) in
+    (c.fill-2.ensures.after (λ y e. e) ∙ ap zeros c.told-room)
+    (c.fill.ensures.after (λ y e. e) ∙ ap zeros c.told-window) in
     record { opened = fresh; rule = rule_of fresh (ruled_open c.args.rule c.args.number (omega arith)) }
