@@ -8,7 +8,6 @@ use Prim.Native.Nat.{ℕ, ◌+◌, ◌≤◌}
 use native.Mathlib.Omega.{arith}
 use borrow.Author.Tests.{ne_eqb}
 use lib.Dec.{eqb}
-use Rattle.book.specs.declared.deciding.Reason.TheVariants as why
 use Rattle.book.specs.declared.deciding.Reason.{Reason}
 use Rattle.book.specs.Reasons.{reason_number}
 use Rattle.message.specs.Layouts.{type_in}
@@ -73,9 +72,9 @@ module _ (t : Tables) (number : ℕ) (s : List ℕ) where
   default_doubts e h = ap (λ (u : Tables). doubtful u.faults) (default_apart e h)
 
   -- fault 1 is given under the strict rule only
-  pub one_strict : effect_in t s ≡ Fault why.Unlisted → is_strict rule ≡ true
+  pub one_strict : {reason : Reason} → effect_in t s ≡ Fault reason → reason_number reason ≡ 1 → is_strict rule ≡ true
   unfolding seen_of
-  one_strict e = (tells seen (message_in s) e).1 refl
+  one_strict e = (tells seen (message_in s) e).1
 
   -- nothing else is counted apart
   abbrev apart_of : Effect → ℕ

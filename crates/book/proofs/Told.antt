@@ -17,6 +17,7 @@ use Rattle.message.specs.declared.kinds.Message.{Message}
 use Rattle.book.specs.Lookup.{is_at, place_found}
 use Rattle.book.specs.Applying.{Seen, names, executes, is_listed, is_strict, change_of, effect_of}
 use Rattle.book.specs.Named.{is_fault}
+use Rattle.book.specs.Reasons.{reason_number}
 use Rattle.book.specs.declared.deciding.Effect.{Effect}
 use Rattle.book.specs.declared.deciding.Effect.TheVariants.{Put, Replace, Remove, Renew, Enter, Record, Unchanged, Fault, CountApart}
 use Rattle.book.proofs.Types.{no, pick}
@@ -65,7 +66,7 @@ Change seen m (Renew place) = Held seen m place
 Change seen m Enter = Entered seen m
 Change seen m (Record code) = Coded m code
 Change seen m Unchanged = Unit {0}
-Change seen m (Fault reason) = reason ≡ why.Unlisted → is_strict seen.rule ≡ true
+Change seen m (Fault reason) = reason_number reason ≡ 1 → is_strict seen.rule ≡ true
 Change seen m CountApart = (is_listed (type_of m) ≡ false) × (is_strict seen.rule ≡ false)
 
 -- a change that is no fault comes of a message that breaks no rule
@@ -127,7 +128,7 @@ module _ (seen : Seen) (m : Message) where
         λ f. pick Told (is_listed type) (λ e. (good, tt)) (λ e. (good, (e, right (not (is_listed type)) (is_strict seen.rule) (ap not e) one)))
 
   -- by the faults, one after the other: what holds of a fault, the first under the strict rule only, and of the change where no fault holds
-  pub by_faults : (P : Effect → Type 0) → ((reason : Reason) → (reason ≡ why.Unlisted → is_strict seen.rule ≡ true) → P (Fault reason))
+  pub by_faults : (P : Effect → Type 0) → ((reason : Reason) → (reason_number reason ≡ 1 → is_strict seen.rule ≡ true) → P (Fault reason))
       → ((not (is_listed type) && is_strict seen.rule) ≡ false
       → good_message m ≡ true
       → (eqb type 21 && is_at seen.order) ≡ false

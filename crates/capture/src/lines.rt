@@ -1,10 +1,10 @@
 // What is printed: lines put behind one another in a buffer, which is written where the next might not fit.
 ghost use Rattle.std.specs.Prelude.{◌≡◌, ◌≤◌, OnErr};
+ghost use Rattle.text.specs.Output.{Put, PutNumber};
 
 use refusals::Refusal;
-use std::fmt::Write;
-use std::{fmt, io};
-use text::output;
+use std::io;
+use text::{number, output};
 use window::missing::Gap;
 
 // The buffer's bytes, and more of them than any line has.
@@ -35,7 +35,8 @@ impl Lines {
         Ok(())
     }
 
-    fn make_room(&mut self, rt: &impl Print) -> io::Result<()>
+    // Before a line: all before it is written where it might not fit.
+    pub fn make_room(&mut self, rt: &impl Print) -> io::Result<()>
         ensures err { OnErr result (self.new ≡ self.old) }
     {
         if self.end < BYTES - LINE {
@@ -44,34 +45,43 @@ impl Lines {
         self.write_out(rt)
     }
 
+    fn text(&mut self, text: &[u8])
+        ensures { Put self.old.bytes self.old.end text.now self.new.end self.new.bytes }
+    {
+        self.end = output::put(&mut self.bytes, self.end, text);
+    }
+
+    // Its digits are those of `number::put`, whose clause says them: `writeln!` to a buffer of one's own says nothing of them.
+    fn number(&mut self, n: u64)
+        ensures { PutNumber self.old.bytes self.old.end n self.new.end self.new.bytes }
+    {
+        self.end = number::put(&mut self.bytes, self.end, n);
+    }
+
     // `next` and `end` after the packet, how many messages were applied, and the answer.
-    pub fn packet(
-        &mut self,
-        rt: &impl Print,
-        next: u64,
-        end: u64,
-        answer: Result<u64, Refusal>,
-    ) -> io::Result<()> {
-        self.make_room(rt)?;
-        let _ = match answer {
-            Ok(count) => writeln!(self, "{next} {end} {count} ok"),
-            Err(refusal) => writeln!(self, "{next} {end} 0 refused {refusal}"),
-        };
-        Ok(())
+    pub fn packet(&mut self, next: u64, end: u64, answer: Result<u64, Refusal>) {
+        self.number(next);
+        self.text(b" ");
+        self.number(end);
+        match answer {
+            Ok(count) => {
+                self.text(b" ");
+                self.number(count);
+                self.text(b" ok\n");
+            }
+            Err(refusal) => {
+                self.text(b" 0 refused ");
+                self.number(refusal.number() as u64);
+                self.text(b"\n");
+            }
+        }
     }
 
-    pub fn gap(&mut self, rt: &impl Print, gap: Gap) -> io::Result<()> {
-        self.make_room(rt)?;
-        let Gap { start, count } = gap;
-        let _ = writeln!(self, "gap {start} {count}");
-        Ok(())
-    }
-}
-
-// A line has its room, so none of its pieces is lost.
-impl fmt::Write for Lines {
-    fn write_str(&mut self, s: &str) -> fmt::Result {
-        self.end = output::put(&mut self.bytes, self.end, s.as_bytes());
-        Ok(())
+    pub fn gap(&mut self, gap: Gap) {
+        self.text(b"gap ");
+        self.number(gap.start);
+        self.text(b" ");
+        self.number(gap.count);
+        self.text(b"\n");
     }
 }

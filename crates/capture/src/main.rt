@@ -48,8 +48,8 @@ fn replay(rt: &impl Print, owned: &mut Owned, bytes: &[u8]) -> io::Result<Replay
         let start = at + HEAD;
         at += size;
         let answer = owned.take(&bytes[start..at]);
-        let next = asking::next(&owned.room);
-        lines.packet(rt, next, asking::end(&owned.room), answer)?;
+        lines.make_room(rt)?;
+        lines.packet(asking::next(&owned.room), asking::end(&owned.room), answer);
     }
     lines.write_out(rt)?;
     let unmarked = records::unmarked(bytes, at);
@@ -67,7 +67,8 @@ fn gaps(rt: &impl Print, owned: &Owned) -> io::Result<()>
         if gap.count == 0 {
             break;
         }
-        lines.gap(rt, gap)?;
+        lines.make_room(rt)?;
+        lines.gap(gap);
         from = gap.start.saturating_add(gap.count);
     }
     lines.write_out(rt)

@@ -10,8 +10,9 @@ use Rattle.refusals.specs.Refusals.{number_of, refusal_by, refusal_in, refusal_o
 use Rattle.refusals.specs.declared.Refusal.{Refusal}
 use Rattle.refusals.proofs.Numbers.{by_number, some_number}
 use Rattle.packet.proofs.Headers.{told_once}
-use Rattle.packet_reader.specs.Cursors.{lent_if}
+use Rattle.packet_reader.specs.Cursors.{Lent, lent_if}
 use Rattle.packet_reader.specs.Steps.{seen}
+use Rattle.packet_reader.specs.declared.read.Reader as reader_in
 use Rattle.session.specs.Meaning.{Held, Ruled, held}
 use Rattle.session.specs.declared.state.Session.{Session}
 use Rattle.fields.proofs.id.value.Reads as fields_value
@@ -35,6 +36,7 @@ use Rattle.packet_reader.proofs.message_of.Reads as reader-message-of
 use Rattle.packet_reader.proofs.plain.opened.Reads as reader-opened
 use Rattle.packet_reader.proofs.plain.refused.Reads as reader-refused
 use Rattle.packet_reader.proofs.plain.stepped.Reads as reader-stepped
+use Rattle.packet_reader.proofs.read.ReaderIterator.next.Reads as reader-next
 use Rattle.packet_reader.specs.contracts.read.open as reader-open
 use Rattle.packet_reader.specs.contracts.read.refusal as reader-refusal
 use Rattle.packet_reader.specs.contracts.read.step as reader-step
@@ -173,6 +175,8 @@ pub record Reader : Type 0 where
   pub reader_stepped_once : Once reader-stepped.Post
   -- where the part lies and what it holds; the loan's own name is the checker's matter
   pub reader_message_of_once : Fixes reader-message-of.Post (λ κs r s. lent_if r)
+  -- as a step: the part, and the reader behind it
+  pub reader_next_once : Fixes {T = λ κs. Option Lent × reader_in.Reader} reader-next.Post (λ κs r s. (lent_if r, s.0.now))
 
 pub reader : Reader
 reader =
@@ -183,6 +187,7 @@ reader =
       reader_refused_once = λ κs a one other s t p q. some_once one other (once p q);
       reader_stepped_once = named (λ κs a r s p. p);
       reader_message_of_once = named (λ κs a r s p. p);
+      reader_next_once = named (λ κs a r s p. p.0);
     }
 
 -- Of the calls that are lent a reader or the orders each clause stands by itself: what it tells, at every model of the logic.

@@ -1,3 +1,2 @@
--- Each call's contract determines it; and the law over a broken field.
+-- Each call's contract determines it.
 pub mod Determined
-pub mod Rules

@@ -28,9 +28,12 @@ use Rattle.message.specs.declared.kinds.Body.{Body}
 pub kind_is : (m : Message) {b : Body} {r : ℕ} → m.body ≡ b → r ≡ broken_of (record { id = m.id; symbol = m.symbol; firm = m.firm; body = b }) → r ≡ broken_of m
 kind_is m e h = h ∙ ap (λ (b : Body). broken_of (record { id = m.id; symbol = m.symbol; firm = m.firm; body = b })) (sym e)
 
--- the first test by what it comes to
+-- the first test by what it comes to, and the tests behind it
+pub broken_is : {r behind last : ℕ} {k t : Bool} (at : ℕ) → r ≡ broken_or k at behind → k ≡ t → behind ≡ last → r ≡ broken_or t at last
+broken_is at r e rest = r ∙ (λ i. broken_or (e i) at (rest i))
+
 pub tested : {r : ℕ} {k t : Bool} (at behind : ℕ) → r ≡ broken_or k at behind → k ≡ t → r ≡ broken_or t at behind
-tested at behind r e = r ∙ ap (λ (k : Bool). broken_or k at behind) e
+tested at behind r e = broken_is at r e refl
 
 -- an execution by its terms, in a message
 pub executed-is : (id symbol firm : List ℕ) (time executed remaining execution : ℕ) (terms : Terms) {r : ℕ} {named : Bool} → r ≡ broken_by (type_of_terms terms) (named ∷ good_quantity executed ∷ map (number good_price) (price_of terms)) → named ≡ good_id id → r ≡ broken_of (record { id = id; symbol = symbol; firm = firm; body = Execution time executed remaining execution terms })

@@ -20,7 +20,7 @@ pub(crate) const PAYLOAD: [u8; TYPES] = [
 ];
 
 // The table, copied once by whoever asks for many types, and lent from there.
-#[derive(Clone, Copy)]
+#[derive(Clone, Copy, Debug, PartialEq, Eq, PartialOrd, Ord, Hash)]
 pub struct Payloads {
     pub by_type: [u8; TYPES],
     ghost listed: { by_type ≡ payload_table },

@@ -3,15 +3,16 @@
 use Rattle.std.proofs.Common.{◌≡◌, ℕ, ◌∙◌, ap, sym, refl, not, Bool, true, false, cond, eqb, Option, Some, None}
 use Rattle.std.specs.Option.{is_some}
 use Rattle.message.specs.Rules.{broken_or}
+use Rattle.message.proofs.Cases.{broken_is}
 use Rattle.message_rules.specs.Offsets.{offset_told}
 
 -- the answer of one test, and of those behind it
 pub told_is : {r behind : Option ℕ} {k t : Bool} (at last : ℕ) → eqb at 0 ≡ false → r ≡ cond k behind (Some at) → k ≡ t → behind ≡ offset_told last → r ≡ offset_told (broken_or t at last)
 unfolding broken_or
-told_is {behind = behind} {t = t} at last some r e rest = r ∙ ap (λ (b : Bool). cond b behind (Some at)) e ∙ by_test t
+told_is {k = k} at last some r e rest = r ∙ ap (λ (b : Option ℕ). cond k b (Some at)) rest ∙ by_test k ∙ ap offset_told (broken_is at refl e refl)
   where
-    by_test : (t : Bool) → cond t behind (Some at) ≡ offset_told (broken_or t at last)
-    by_test true = rest
+    by_test : (k : Bool) → cond k (offset_told last) (Some at) ≡ offset_told (broken_or k at last)
+    by_test true = refl
     by_test false = simp some
 
 -- no field is broken where none is told

@@ -3,26 +3,26 @@ use crate::layout;
 use crate::words::Texts;
 use message::Message;
 use packet::Header;
-use refusals::Refusal;
+use std::fmt::Display;
 use std::io;
 
-// A refusal with no line end: a buffer may follow.
-pub fn refusal(rt: &impl Print, refusal: Refusal) -> io::Result<()> {
+// A refusal with no line end: a buffer may follow. It is a `Refusal`, or the number of one.
+pub fn refusal<R: Display + Drop>(rt: &impl Print, refusal: R) -> io::Result<()> {
     print!(rt; "refused {refusal}")
 }
 
-pub fn refused(rt: &impl Print, refusal: Refusal) -> io::Result<()> {
+pub fn refused<R: Display + Drop>(rt: &impl Print, refusal: R) -> io::Result<()> {
     println!(rt; "refused {refusal}")
 }
 
-pub fn value(rt: &impl Print, answer: Result<u64, Refusal>) -> io::Result<()> {
+pub fn value<R: Display + Drop>(rt: &impl Print, answer: Result<u64, R>) -> io::Result<()> {
     match answer {
         Ok(value) => println!(rt; "value {value}"),
         Err(refusal) => refused(rt, refusal),
     }
 }
 
-pub fn header(rt: &impl Print, answer: Result<Header, Refusal>) -> io::Result<()> {
+pub fn header<R: Display + Drop>(rt: &impl Print, answer: Result<Header, R>) -> io::Result<()> {
     match answer {
         Ok(
             Header {
@@ -37,7 +37,11 @@ pub fn header(rt: &impl Print, answer: Result<Header, Refusal>) -> io::Result<()
     }
 }
 
-pub fn message(rt: &impl Print, answer: Result<Message, Refusal>, texts: Texts) -> io::Result<()> {
+pub fn message<R: Display + Drop>(
+    rt: &impl Print,
+    answer: Result<Message, R>,
+    texts: Texts,
+) -> io::Result<()> {
     match answer {
         Ok(message) => {
             print!(rt; "message")?;
@@ -49,7 +53,7 @@ pub fn message(rt: &impl Print, answer: Result<Message, Refusal>, texts: Texts) 
 }
 
 // What a writer says; the buffer follows.
-pub fn written(rt: &impl Print, said: Result<usize, Refusal>) -> io::Result<()> {
+pub fn written<R: Display + Drop>(rt: &impl Print, said: Result<usize, R>) -> io::Result<()> {
     match said {
         Ok(count) => print!(rt; "wrote {count}"),
         Err(refused) => refusal(rt, refused),

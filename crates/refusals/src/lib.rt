@@ -4,7 +4,7 @@
 // or `Err` with the refusal; a host that takes numbers asks for it by `number`.
 #![tactic(auto)]
 
-ghost use Rattle.std.specs.Prelude.{◌≡◌};
+ghost use Rattle.std.specs.Prelude.{◌≡◌, ◌++◌, codes, decimal, Some};
 ghost use Rattle.refusals.specs.Refusals.{number_of, refusal_in, Decodes};
 
 use std::error::Error;
@@ -85,13 +85,18 @@ impl TryFrom<u64> for Refusal {
     }
 }
 
+// Printed as its number.
 impl fmt::Display for Refusal {
+    ghost output = { λ r. Some (decimal (number_of r)) };
+
     fn fmt<W: fmt::Write>(&self, f: &mut fmt::Formatter<W>) -> fmt::Result {
         write!(f, "{}", self.number())
     }
 }
 
 impl fmt::Display for NoRefusal {
+    ghost output = { λ n. Some (codes "no refusal has number " ++ decimal n.0) };
+
     fn fmt<W: fmt::Write>(&self, f: &mut fmt::Formatter<W>) -> fmt::Result {
         write!(f, "no refusal has number {}", self.0)
     }

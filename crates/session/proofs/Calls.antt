@@ -36,14 +36,14 @@ use Rattle.book_index.specs.Chains.{index_of}
 use Rattle.book_room.specs.Room.{parts_of, rule_number}
 use Rattle.book_room.specs.Room.{rows_of as inside_rows}
 use Rattle.window_taking.specs.Keeping.{waiting_of, window_for}
+use Rattle.window_taking.specs.Taking.{take_tests, wait_tests}
 use Rattle.window_taking.specs.Turns.{behind, cut_at, end_from, frame_at, packet_at, packets_from, packets_in}
 use Rattle.window_taking.proofs.Accepted.{overnight-judged}
-use Rattle.window_taking.proofs.Answered.{test_most}
 use Rattle.window_taking.proofs.Windows.{waits_place}
 use Rattle.session.specs.Meaning.{AllBytes, Held, Ruled, Meaning, end_in, feed, held, next_in, overnight, rep, view}
 use Rattle.book_index.proofs.Laws.{index_empty}
 use Rattle.session.specs.Asking.{gap_from, gaps_of, lacks, limit, line_in, missing, placed}
-use Rattle.session.specs.Bursts.{answer_of, applied_by, answers_after, burst_of, bytes_of, count_if, count_of, row_of, rows_of}
+use Rattle.session.specs.Bursts.{answer_of, applied_by, answers_after, burst_of, bytes_of, count_if, count_of, refusal_of, row_of, rows_of}
 use Rattle.session.specs.Bursts.{Runs}
 use Rattle.session.proofs.States.{ruled_calls, ruled_more, ruled_rule, stands}
 
@@ -90,6 +90,14 @@ pub both : (a b : Bool) → (a && b) ≡ true → (a ≡ true) × (b ≡ true)
 both true b h = (refl, h)
 both false b h = absurd (omega (arith, ap {B = ℕ} (λ (c : Bool). cond c 1 0) h))
 
+small_by : (top : ℕ) (b : Bool) (t d : ℕ × ℕ) → t.0 ≤ top → d.0 ≤ top → (cond b t d).0 ≤ top
+small_by top true t d h g = h
+small_by top false t d h g = g
+
+small : (top : ℕ) (ts : List Test) → few top ts ≡ true → (decided ts).0 ≤ top
+small top [] h = omega arith
+small top (t ∷ ts) h = let b = both (leb t.1.0 top) (few top ts) h in small_by top t.0 t.1 (decided ts) (leb-true t.1.0 top b.0) (small top ts b.1)
+
 few_more : (top : ℕ) (xs ys : List Test) → few top xs ≡ true → few top ys ≡ true → few top (xs ++ ys) ≡ true
 few_more top [] ys h g = g
 few_more top (x ∷ xs) ys h g = let b = both (leb x.1.0 top) (few top xs) h in ap₂ ◌&&◌ b.0 (few_more top xs ys b.1 g)
@@ -98,7 +106,7 @@ few_unless : (top : ℕ) (b : Bool) (ts : List Test) → few top ts ≡ true →
 few_unless top true ts h = refl
 few_unless top false ts h = h
 
--- 1 to 8 without a session
+-- 1 to 8 without a session, and 1 to 10 with one
 packet_few : (top : ℕ) (s : List ℕ) → few top (header_tests s) ≡ true → few top (body_tests (walk_from (header_in s).messages 12 s) (header_in s).seq (header_in s).messages) ≡ true → few top (packet_tests s) ≡ true
 unfolding packet_tests
 packet_few top s h g =
@@ -108,6 +116,13 @@ packet_few top s h g =
 pub packet_small : (s : List ℕ) → few 8 (packet_tests s) ≡ true
 unfolding header_tests flag_tests body_tests
 packet_small s = packet_few 8 s refl refl
+
+pub refusal_small : (x : Meaning) (s : List ℕ) → refusal_of x s ≤ 10
+unfolding take_tests header_tests flag_tests body_tests
+refusal_small x s =
+    small 10 (take_tests x s)
+    (few_more 10 (packet_tests s) (unless_heartbeat (header.heartbeat (header_in s).flag) (wait_tests x s)) (packet_few 10 s refl refl)
+    (few_unless 10 (header.heartbeat (header_in s).flag) (wait_tests x s) refl))
 
 pub one_packet : (s : List ℕ) → packets_from true 1 0 s ≡ s ∷ []
 unfolding packets_from
@@ -128,7 +143,7 @@ module _ (x : Meaning) (s : List ℕ) {l : List ℕ} (rows : l ≡ splice (0 ∷
   four = rows ∙ ap (λ (ps : List (List ℕ)). splice (0 ∷ 0 ∷ 0 ∷ 0 ∷ []) 0 (rows_of x ps)) (one_packet s)
 
   pub told_refusal : get_or l 1 0 ≤ 14
-  told_refusal = subst (λ (k : List ℕ). get_or k 1 0 ≤ 14) (sym four) (test_most x s)
+  told_refusal = subst (λ (k : List ℕ). get_or k 1 0 ≤ 14) (sym four) (omega (arith, refusal_small x s))
 
   pub taken_is : {after : Held} → after ≡ rep (take_all overnight (apply_up_to feed 0 x) (packets_from true 1 0 s)) → after ≡ rep (take_one overnight x s)
   unfolding take_all apply_up_to

@@ -5,3 +5,4 @@ pub mod Held
 pub mod Requests
 pub mod Sizes
 pub mod Splits
+mod Steps

@@ -6,5 +6,6 @@
 #![tactic(auto)]
 
 pub mod asking;
+mod copying;
 pub mod missing;
 pub mod places;

@@ -3,6 +3,8 @@ ghost use Rattle.std.specs.Prelude.{◌≡◌, ◌+◌, ◌*◌, ◌≤◌, ◌<
 ghost use Rattle.wire.specs.Number.{part, splice};
 ghost use Rattle.window.specs.Window.{agreeing, size_at, some_size, start_of, zeros};
 
+use crate::copying;
+
 // How many numbers may wait, the bytes of a place, which has room for a longest message, and the bytes of all places.
 pub const NUMBERS: u64 = 256;
 
@@ -60,7 +62,7 @@ pub fn keep(window: &mut Window, place: usize, message: &[u8])
     ensures { window.new ≡ splice window.old (start_of place) message.now }
 {
     let start = place * PLACE;
-    window[start..start + message.len()].copy_from_slice(message);
+    copying::put(window, start, message);
 }
 
 // A place made free.

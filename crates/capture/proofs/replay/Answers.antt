@@ -10,7 +10,7 @@ loop-size-preserved g c =
     let before = c.loop-size.invariant in
     (taken_strictly _ before.0 call.taken call.rule, search rules)
 
-pub returns-in_err-packet-clause-strict : goal.returns-in_err-packet-clause-strict
-returns-in_err-packet-clause-strict g c =
+pub returns-in_err-make_room-clause-strict : goal.returns-in_err-make_room-clause-strict
+returns-in_err-make_room-clause-strict g c =
     let call = c.take-answer.ensures in
     taken_strictly _ c.loop-size.invariant.0 call.taken call.rule
